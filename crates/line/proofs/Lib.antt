@@ -1,0 +1,5 @@
+pub mod Good
+pub mod Laws
+pub mod Lines
+pub mod Places
+pub mod Spelling
