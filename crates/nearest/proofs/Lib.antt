@@ -1,0 +1,5 @@
+pub mod Offers
+pub mod Counting
+pub mod Kept
+pub mod Frontier
+pub mod Theorems
