@@ -1,0 +1,4 @@
+pub mod Bench
+pub mod Parts
+pub mod Rules
+pub mod Shape
