@@ -1,0 +1,4 @@
+pub mod Local
+pub mod Writing
+pub mod Masks
+pub mod Routes
