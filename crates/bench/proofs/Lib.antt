@@ -1,0 +1,4 @@
+pub mod Answers
+pub mod Areas
+pub mod Laws
+pub mod Routes
