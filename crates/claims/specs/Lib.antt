@@ -1,0 +1,4 @@
+pub mod Calls
+pub mod Mixture
+pub mod Demands
+pub mod Five
