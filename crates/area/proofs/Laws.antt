@@ -16,9 +16,9 @@ use Rattle.map.specs.declared.Side.the-variants.{Forward, Backward}
 use Rattle.half.specs.Half.{unknown, ShapedHalf}
 use Rattle.shape.specs.Bench.{Bench, half, root, halfAt, benchWords, parse, WellShaped}
 use Rattle.shape.specs.Rules.{known, done}
-use Rattle.shape.specs.Shape.{shapeFault}
+use Rattle.shaped.specs.Shape.{shapeFault}
 use Rattle.shape.proofs.Rounds.{half-part, parse-room}
-use Rattle.shape.proofs.Shaped.{fault-shaped}
+use Rattle.shaped.proofs.Shaped.{fault-shaped}
 use Rattle.trail.specs.Sound.{SoundHalf, soundFault, marksFault}
 use Rattle.trail.specs.Trail.{Walkable}
 use Rattle.trail.proofs.Soundness.{fault-sound, fault-marks, sound-walkable}

@@ -11,7 +11,7 @@ use Rattle.map.specs.Map.{mapFault}
 use Rattle.map.specs.declared.Side.the-variants.{Forward, Backward}
 use Rattle.shape.specs.Bench.{Bench, benchWords, parse}
 use Rattle.shape.specs.Rules.{known, done}
-use Rattle.shape.specs.Shape.{shapeFault}
+use Rattle.shaped.specs.Shape.{shapeFault}
 use Rattle.trail.specs.Sound.{soundFault, marksFault}
 use Rattle.route.specs.Area.{routeOf}
 

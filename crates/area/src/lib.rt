@@ -20,10 +20,10 @@ fn done_fault(bench: &[u32], n: usize) -> u32
     requires { ⌜ (n ≤ 4096) × (benchWords n ≤ length (now bench)) × (getD (now bench) 0 0 ≡ n) ⌝ }
     ensures { λ r. ⌜ r ≡ doneFault (parse n (now (bench .entry))) ⌝ }
 {
-    if !done::is_done(bench, n, Side::Forward) {
+    if !rules::is_done(bench, n, Side::Forward) {
         return 8;
     }
-    if !done::is_done(bench, n, Side::Backward) {
+    if !rules::is_done(bench, n, Side::Backward) {
         return 8;
     }
     0
@@ -107,7 +107,7 @@ fn lent_fault(map: &[u32], n: u32, m: u32, given: u32, bench: &[u32]) -> u32
     if first != 0 {
         return first;
     }
-    shape::shape_fault(bench, n, m)
+    shaped::shape_fault(bench, n, m)
 }
 
 // The number of refusal of an area call whose mask has room for so many bytes.

@@ -12,7 +12,7 @@ use Rattle.map.specs.Map.{mapFault}
 use Rattle.map.specs.declared.Side.{Side}
 use Rattle.shape.specs.Bench.{benchWords, words, parse, opened}
 use Rattle.shape.specs.Rules.{turned, turnTold}
-use Rattle.shape.specs.Shape.{shapeFault}
+use Rattle.shaped.specs.Shape.{shapeFault}
 use Rattle.bench.specs.declared.Opening.{Opening}
 use Rattle.bench.specs.declared.Opening.the-variants as openings
 use Rattle.bench.specs.declared.Turn.{Turn}

@@ -1,4 +1,3 @@
 pub mod Areas
 pub mod Calls
 pub mod Routes
-pub mod Writing

@@ -19,7 +19,7 @@ use Rattle.map.specs.declared.Side.the-variants.{Forward, Backward}
 use Rattle.shape.specs.Bench.{Bench, benchWords, words, opened, WellShaped}
 use Rattle.shape.specs.Rules.{turned, turnTold}
 use Rattle.shape.proofs.Rounds.{Room, shaped-room, parse-words}
-use Rattle.shape.proofs.Shaped.{shaped-fault, opened-shaped}
+use Rattle.shaped.proofs.Shaped.{shaped-fault, opened-shaped}
 use Rattle.shape.proofs.Turns.{turned-shaped}
 use Rattle.bench.specs.Calls.{judged, orderFault, openFault, openSaid, openWords, turnFault, turnSaid, turnWords}
 use Rattle.claims.specs.Mixture.{Order, run}

@@ -1,3 +1,4 @@
+pub mod Accepted
 pub mod Calls
 pub mod Optimum
 pub mod Turns

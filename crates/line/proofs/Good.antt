@@ -11,13 +11,13 @@ use lib.ListN.{length, getD, drop, length-append, drop-of-length-le}
 use lib.Seq.{getD-append-seam}
 use Rattle.limits.specs.Limits.{Between}
 use Rattle.limits.proofs.Cases.{cond-both, cond-then, cond-else}
-use Rattle.line.specs.Number.{digitOf}
+use Rattle.number.specs.Number.{digitOf}
 use Rattle.line.specs.Line.{numberThen, fieldAt, fieldOf, agreeFrom, agreeOf, sizeWord, linkWord, commentOf, sizeOf, linkOf, lineOf}
 use Rattle.line.specs.Good.{All, none, more, NoLF, Spells, CommentLine, alone, spaced, SizeLine, LinkLine}
 use Rattle.line.proofs.Lines.{Cut, Whole}
 use Rattle.line.proofs.Spelling.{FieldAt, field-spelled, spelled-field, behind-field}
-use Rattle.line.specs.declared.Number.{Number}
-use Rattle.line.specs.declared.Number.the-variants.{Good, Bad}
+use Rattle.number.specs.declared.Number.{Number}
+use Rattle.number.specs.declared.Number.the-variants.{Good, Bad}
 use Rattle.line.specs.declared.Field.{Field}
 use Rattle.line.specs.declared.Line.{Line}
 use Rattle.line.specs.declared.Line.the-variants.{Comment, Size, Link, Strange, Wrong}

@@ -7,11 +7,11 @@ use borrow.Author.Tests.{ltb-true, ltb-false}
 use lib.Dec.{ltb, eqb}
 use lib.ListN.{length, getD, drop, length-drop}
 use Rattle.limits.proofs.Cases.{cond-both, cond-cases}
-use Rattle.line.specs.Number.{digitOf, grow, begin, numberAt}
+use Rattle.number.specs.Number.{digitOf, grow, begin, numberAt}
 use Rattle.line.specs.Line.{numberThen, stopAt, fieldAt, agreeFrom, agreeOf, sizeWord, linkWord, commentOf, sizeOf, linkOf, lineOf}
 use Rattle.line.specs.Good.{All, none, more}
-use Rattle.line.specs.declared.Number.{Number}
-use Rattle.line.specs.declared.Number.the-variants.{Good, Bad}
+use Rattle.number.specs.declared.Number.{Number}
+use Rattle.number.specs.declared.Number.the-variants.{Good, Bad}
 use Rattle.line.specs.declared.Line.{Line}
 use Rattle.line.specs.declared.Line.the-variants.{Comment, Size, Link, Strange, Wrong}
 

@@ -13,11 +13,11 @@ use lib.ListN.{length, getD, drop, length-append, length-drop}
 use lib.Seq.{drop-append-seam, drop-append-add, drop-drop, drop-cons, getD-drop, getD-append-seam}
 use Rattle.limits.specs.Limits.{Between}
 use Rattle.limits.proofs.Cases.{cond-then, cond-else}
-use Rattle.line.specs.Number.{digitOf, grow, begin, numberAt}
+use Rattle.number.specs.Number.{digitOf, grow, begin, numberAt}
 use Rattle.line.specs.Line.{numberThen, stopAt, fieldAt}
 use Rattle.line.specs.Good.{All, none, more, worthFrom, Spells}
-use Rattle.line.specs.declared.Number.{Number}
-use Rattle.line.specs.declared.Number.the-variants.{Good, Bad}
+use Rattle.number.specs.declared.Number.{Number}
+use Rattle.number.specs.declared.Number.the-variants.{Good, Bad}
 
 -- ---- digits
 

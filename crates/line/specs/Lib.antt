@@ -1,4 +1,3 @@
-pub mod Number
 pub mod Line
 pub mod Lines
 pub mod Good

@@ -4,9 +4,9 @@ use mathlib.Core.List.{List, [], _∷_}
 use Prim.Native.Nat.{ℕ, _+_, _-_}
 use lib.ListN.{length, getD}
 use lib.Dec.{ltb, eqb}
-use Rattle.line.specs.Number.{numberAt}
-use Rattle.line.specs.declared.Number.{Number}
-use Rattle.line.specs.declared.Number.the-variants.{Good, Bad}
+use Rattle.number.specs.Number.{numberAt}
+use Rattle.number.specs.declared.Number.{Number}
+use Rattle.number.specs.declared.Number.the-variants.{Good, Bad}
 use Rattle.line.specs.declared.Field.{Field}
 use Rattle.line.specs.declared.Line.{Line}
 use Rattle.line.specs.declared.Line.the-variants.{Comment, Size, Link, Strange, Wrong}

@@ -1,3 +1,2 @@
-pub mod Accepted
 pub mod Laws
 pub mod Walks

@@ -1,6 +1,6 @@
 // What the programs share that run rows of numbers: reading a row's numbers, and printing.
 use libc::STDOUT_FILENO;
-use line::Number;
+use number::Number;
 ghost use Prim.Native.Nat.{_≤_};
 ghost use lib.ListN.{length};
 
@@ -11,7 +11,7 @@ pub fn numbers(row: &[u8], from: usize, words: &mut [u32]) -> usize
     let mut at = from;
     let mut k = 0;
     while k < words.len() {
-        match line::number_at(row, at) {
+        match number::number_at(row, at) {
             Number::Bad(_) => {
                 return k;
             }

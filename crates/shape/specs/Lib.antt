@@ -1,4 +1,3 @@
 pub mod Bench
 pub mod Parts
 pub mod Rules
-pub mod Shape

@@ -20,12 +20,13 @@ use Rattle.line.proofs.Good.{read-comment, read-size, read-link, comment-read, 
 use Rattle.line.specs.declared.Field.{Field}
 use Rattle.line.specs.declared.Line.{Line}
 use Rattle.line.specs.declared.Line.the-variants.{Comment, Size, Link, Strange, Wrong}
-use Rattle.text.specs.Text.{faultAt, stateOf, firstOf, sizeFault, linkFault, stepBy, sizeStep, linkStep, taken, stepThen, finish, readLines, readText, lineWords, wordsOf}
+use Rattle.step.specs.Step.{faultAt, stateOf, firstOf, sizeFault, linkFault, stepBy, sizeStep, linkStep, taken, stepThen}
+use Rattle.text.specs.Text.{finish, readLines, readText, lineWords, wordsOf}
 use Rattle.text.specs.Good.{Links, done, skip, link, Layout, skipped, sized, Good}
-use Rattle.text.specs.declared.State.{State}
-use Rattle.text.specs.declared.Fault.{Fault}
-use Rattle.text.specs.declared.Step.{Step}
-use Rattle.text.specs.declared.Step.the-variants.{Go, Stop}
+use Rattle.step.specs.declared.State.{State}
+use Rattle.step.specs.declared.Fault.{Fault}
+use Rattle.step.specs.declared.Step.{Step}
+use Rattle.step.specs.declared.Step.the-variants.{Go, Stop}
 
 -- ---- faults that are none
 

@@ -13,10 +13,11 @@ use Rattle.line.specs.Lines.{linesOf}
 use Rattle.line.specs.declared.Field.{Field}
 use Rattle.line.specs.declared.Line.{Line}
 use Rattle.line.specs.declared.Line.the-variants.{Link}
-use Rattle.text.specs.Text.{taken, finish, readLines, lineWords, wordsOf}
-use Rattle.text.specs.declared.State.{State}
-use Rattle.text.specs.declared.Fault.{Fault}
-use Rattle.text.specs.declared.Step.the-variants.{Go, Stop}
+use Rattle.step.specs.Step.{taken}
+use Rattle.text.specs.Text.{finish, readLines, lineWords, wordsOf}
+use Rattle.step.specs.declared.State.{State}
+use Rattle.step.specs.declared.Fault.{Fault}
+use Rattle.step.specs.declared.Step.the-variants.{Go, Stop}
 
 -- ---- the first pass
 

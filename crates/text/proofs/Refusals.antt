@@ -13,12 +13,13 @@ use Rattle.limits.proofs.Said.{told-refused}
 use Rattle.limits.specs.Said.{told, refused}
 use Rattle.line.specs.Line.{lineOf}
 use Rattle.line.specs.Lines.{linesOf}
-use Rattle.text.specs.Text.{said, stateOf, taken, stepThen, finish, readLines, readText, wordsOf, mapAfter}
+use Rattle.step.specs.Step.{stateOf, taken, stepThen}
+use Rattle.text.specs.Text.{said, finish, readLines, readText, wordsOf, mapAfter}
 use Rattle.text.proofs.Good.{accepted-good}
-use Rattle.text.specs.declared.State.{State}
-use Rattle.text.specs.declared.Fault.{Fault}
-use Rattle.text.specs.declared.Step.{Step}
-use Rattle.text.specs.declared.Step.the-variants.{Go, Stop}
+use Rattle.step.specs.declared.State.{State}
+use Rattle.step.specs.declared.Fault.{Fault}
+use Rattle.step.specs.declared.Step.{Step}
+use Rattle.step.specs.declared.Step.the-variants.{Go, Stop}
 use Rattle.text.specs.declared.Reading.{Reading}
 use Rattle.text.specs.declared.Reading.the-variants.{Read, Refused}
 

@@ -1,7 +1,7 @@
 -- `bench::advance` meets its contract. Assumes nothing.
 use native.Mathlib.Omega.{arith}
 use Rattle.bench.proofs.Laws.{turn-none, turn-beyond, turn-settles}
-use Rattle.done.proofs.Laws.{next-in}
+use Rattle.rules.proofs.Laws.{next-in}
 use borrow.Author.Needs.{needs}
 use Rattle.bench.proofs.advance.Statement.{statement}
 use Rattle.bench.proofs.advance.Tie as tie
