@@ -15,8 +15,10 @@ use Rattle.route.specs.Area.{routeIn, routeOf}
 use Rattle.trail.proofs.Walking.{trail-short, step-trail}
 use Rattle.route.proofs.Routes.{route-size}
 use Rattle.area.specs.Asked.{Routed}
-use Rattle.area.specs.Finished.{finishedFault, lentFault, askedFault, routeFault}
-use Rattle.area.proofs.Laws.{half-between, Ready, lent-ready, walkable-by}
+use Rattle.area.specs.Finished.{finishedFault, askedFault, routeFault}
+use Rattle.shaped.specs.Lent.{lentFault}
+use Rattle.shaped.proofs.Lent.{Ready, lent-ready}
+use Rattle.area.proofs.Laws.{half-between, walkable-by}
 
 -- ---- the lent halves
 

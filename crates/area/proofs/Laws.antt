@@ -2,27 +2,23 @@
 use mathlib.Core.Path.{_≡_, refl, sym, ap, subst, _∙_}
 use mathlib.Core.Bool.{Bool, true, false, not}
 use mathlib.Core.List.{List}
-use Prim.Native.Nat.{ℕ, _+_, _*_, _-_, _≤_}
+use Prim.Native.Nat.{ℕ, _+_, _*_, _-_}
 use native.Mathlib.Omega.{arith}
 use borrow.Author.Tests.{eq-eqb, ne-eqb, not-true, not-false}
-use lib.ListN.{length, getD, take, drop}
+use lib.ListN.{getD, take, drop}
 use Rattle.limits.specs.First.{orElse}
-use Rattle.limits.specs.Limits.{roomFault}
-use Rattle.limits.proofs.Laws.{orElse-first, orElse-second, orElse-none, orElse-assoc, room-none}
-use Rattle.map.specs.Map.{mapFault, Valid}
-use Rattle.map.proofs.Laws.{fault-valid}
+use Rattle.limits.proofs.Laws.{orElse-first, orElse-second, orElse-none}
 use Rattle.map.specs.declared.Side.{Side}
 use Rattle.map.specs.declared.Side.the-variants.{Forward, Backward}
 use Rattle.half.specs.Half.{unknown, ShapedHalf}
-use Rattle.shape.specs.Bench.{Bench, half, root, halfAt, benchWords, parse, WellShaped}
+use Rattle.shape.specs.Bench.{Bench, half, root, halfAt, parse, WellShaped}
 use Rattle.shape.specs.Rules.{known, done}
-use Rattle.shaped.specs.Shape.{shapeFault}
-use Rattle.shape.proofs.Rounds.{half-part, parse-room}
-use Rattle.shaped.proofs.Shaped.{fault-shaped}
+use Rattle.shape.proofs.Rounds.{half-part}
+use Rattle.shaped.proofs.Lent.{Ready}
 use Rattle.trail.specs.Sound.{SoundHalf, soundFault, marksFault}
 use Rattle.trail.specs.Trail.{Walkable}
 use Rattle.trail.proofs.Soundness.{fault-sound, fault-marks, sound-walkable}
-use Rattle.area.specs.Finished.{doneFault, unknownFault, ruleFault, trailsFault, finishedFault, lentFault}
+use Rattle.area.specs.Finished.{doneFault, unknownFault, ruleFault, trailsFault, finishedFault}
 
 -- ---- parts
 
@@ -98,51 +94,13 @@ pub trails-by : (map : List ℕ) (n m : ℕ) (b : Bench) {f g k i r : ℕ} → f
 unfolding trailsFault
 trails-by map n m b p q w j e = e ∙ rw (j, p, q, w)
 
--- ---- what both calls ask first
-
-module _ (map : List ℕ) (n m given : ℕ) (x : List ℕ) {fault : ℕ} (e : fault ≡ mapFault n m map) where
-  pub lent-map : (fault ≡ 0 → ⊥) → fault ≡ lentFault map n m given x
-  unfolding lentFault
-  lent-map z = rw (← e) (sym (orElse-first _ _ z))
-
-  module _ (z : fault ≡ 0) {k room first : ℕ} (h : k ≡ benchWords n) (f : room ≡ roomFault k (length x)) (g : first ≡ orElse given room) where
-    room-is : room ≡ roomFault (benchWords n) (length x)
-    room-is = f ∙ ap (λ (l : ℕ). roomFault l (length x)) h
-
-    pub lent-first : (first ≡ 0 → ⊥) → first ≡ lentFault map n m given x
-    unfolding lentFault
-    lent-first w = rw (← e, ← room-is) (g ∙ sym (orElse-second _ _ z ∙ orElse-assoc given room _ ∙ orElse-first _ _ (λ q. w (g ∙ q))))
-
-    pub lent-sizes : first ≡ 0 → (n ≤ 4096) × (benchWords n ≤ length x)
-    lent-sizes w = (fault-valid n m map (sym e ∙ z) .n-in .most, room-none _ _ (sym room-is ∙ orElse-none given room (sym g ∙ w) .1))
-
-    pub lent-shape : first ≡ 0 → shapeFault n m (parse n x) ≡ lentFault map n m given x
-    unfolding lentFault
-    lent-shape w =
-        let o = orElse-none given room (sym g ∙ w) in
-        rw (← e, ← room-is) (sym (orElse-second _ _ z ∙ orElse-second _ _ (o .0) ∙ orElse-second _ _ (o .1)))
-
--- what a call has whose map and bench are not refused
-pub record Ready (map : List ℕ) (n m : ℕ) (x : List ℕ) : Type 0 where
-  pub valid : Valid n m map
-  pub room : benchWords n ≤ length x
-  pub shaped : WellShaped n m (parse n x)
-
-pub lent-ready : (map : List ℕ) (n m given : ℕ) (x : List ℕ) → lentFault map n m given x ≡ 0 → (given ≡ 0) × Ready map n m x
-unfolding lentFault
-lent-ready map n m given x z =
-    let a = orElse-none _ _ z in
-    let b = orElse-none _ _ (a .1) in
-    let c = orElse-none _ _ (b .1) in
-    let room = room-none (benchWords n) (length x) (c .0) in
-    (b .0, record { valid = fault-valid n m map (a .0); room = room; shaped = fault-shaped (parse-room n x room) (c .1) })
+-- ---- sound trails and marks can be walked
 
 by-side : {map : List ℕ} {n m : ℕ} (b : Bench) → SoundHalf Forward map n m (b .start) (b .forward) → SoundHalf Backward map n m (b .target) (b .backward)
     → (s : Side) → SoundHalf s map n m (root s b) (half s b)
 by-side b f g Forward = f
 by-side b f g Backward = g
 
--- sound trails and marks can be walked
 pub walkable-by : {map : List ℕ} {n m : ℕ} {x : List ℕ} → Ready map n m x → trailsFault map n m (parse n x) ≡ 0 → Walkable map n (parse n x .forward) (parse n x .backward) (parse n x .marks)
 unfolding trailsFault ruleFault
 walkable-by {map} {n} {m} {x} r z =

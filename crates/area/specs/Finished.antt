@@ -7,11 +7,10 @@ use lib.Dec.{eqb}
 use lib.ListN.{length, getD}
 use Rattle.limits.specs.First.{orElse}
 use Rattle.limits.specs.Limits.{crossingFault, localityFault, roomFault}
-use Rattle.map.specs.Map.{mapFault}
 use Rattle.map.specs.declared.Side.the-variants.{Forward, Backward}
-use Rattle.shape.specs.Bench.{Bench, benchWords, parse}
+use Rattle.shape.specs.Bench.{Bench, parse}
 use Rattle.shape.specs.Rules.{known, done}
-use Rattle.shaped.specs.Shape.{shapeFault}
+use Rattle.shaped.specs.Lent.{lentFault}
 use Rattle.trail.specs.Sound.{soundFault, marksFault}
 use Rattle.route.specs.Area.{routeOf}
 
@@ -39,16 +38,7 @@ trailsFault map n m b =
 unfoldable pub finishedFault : List ℕ → ℕ → ℕ → Bench → ℕ
 finishedFault map n m b = orElse (doneFault b) (orElse (unknownFault b) (trailsFault map n m b))
 
--- ---- what both calls ask first: the map, a number of their own, bench 3, then 6
-
-unfoldable pub lentFault : List ℕ → ℕ → ℕ → ℕ → List ℕ → ℕ
-lentFault map n m given x =
-    orElse (mapFault n m map)
-    (orElse given
-    (orElse (roomFault (benchWords n) (length x))
-    (shapeFault n m (parse n x))))
-
--- ---- area: locality 5, bench 3, 6, mask 3, 8, 9, 7
+-- ---- area: those of the map, locality 5, bench 3, 6, mask 3, 8, 9, 7
 
 unfoldable pub areaFault : List ℕ → ℕ → ℕ → List ℕ → ℕ → ℕ → ℕ
 areaFault map n m x locality room =
@@ -56,7 +46,7 @@ areaFault map n m x locality room =
     (orElse (roomFault n room)
     (finishedFault map n m (parse n x)))
 
--- ---- route: crossing 4, bench 3, 6, 8, 9, 7, 10, buffer 3
+-- ---- route: those of the map, crossing 4, bench 3, 6, 8, 9, 7, 10, buffer 3
 
 -- the asked crossing has mark 0, then the room of the buffer
 unfoldable pub askedFault : List ℕ → Bench → ℕ → ℕ → ℕ

@@ -9,7 +9,7 @@ ghost use Rattle.shape.specs.Bench.{half, benchWords, parse, WellShaped};
 ghost use Rattle.trail.specs.Sound.{soundFault};
 ghost use Rattle.route.specs.Area.{maskOf, routeOf};
 ghost use Rattle.area.specs.Asked.{Routed};
-ghost use Rattle.area.specs.Finished.{doneFault, unknownFault, ruleFault, trailsFault, finishedFault, lentFault, areaFault, askedFault, routeFault};
+ghost use Rattle.area.specs.Finished.{doneFault, unknownFault, ruleFault, trailsFault, finishedFault, areaFault, askedFault, routeFault};
 use map::Side;
 
 // An unknown optimum.
@@ -94,27 +94,11 @@ fn finished_fault(map: &[u32], n: usize, m: usize, bench: &[u32]) -> u32
     trails_fault(map, n, m, bench)
 }
 
-// The map, then a number of the call's own, then the bench.
-fn lent_fault(map: &[u32], n: u32, m: u32, given: u32, bench: &[u32]) -> u32
-    ensures { λ r. ⌜ r ≡ lentFault (now (map .entry)) n m given (now (bench .entry)) ⌝ }
-{
-    let fault = map::fault(map, n, m);
-    if fault != 0 {
-        return fault;
-    }
-    let room = limits::room_fault(shape::bench_words(n as usize), bench.len());
-    let first = limits::or_else(given, room);
-    if first != 0 {
-        return first;
-    }
-    shaped::shape_fault(bench, n, m)
-}
-
 // The number of refusal of an area call whose mask has room for so many bytes.
 pub fn area_fault(map: &[u32], n: u32, m: u32, bench: &[u32], locality: u32, room: usize) -> u32
     ensures { λ r. ⌜ r ≡ areaFault (now (map .entry)) n m (now (bench .entry)) locality room ⌝ }
 {
-    let lent = lent_fault(map, n, m, limits::locality_fault(locality), bench);
+    let lent = shaped::lent_fault(map, n, m, limits::locality_fault(locality), bench);
     if lent != 0 {
         return lent;
     }
@@ -175,7 +159,7 @@ fn asked_fault(map: &[u32], n: usize, bench: &[u32], crossing: u32, room: usize)
 pub fn route_fault(map: &[u32], n: u32, m: u32, bench: &[u32], crossing: u32, room: usize) -> u32
     ensures { λ r. ⌜ r ≡ routeFault (now (map .entry)) n m (now (bench .entry)) crossing room ⌝ }
 {
-    let lent = lent_fault(map, n, m, limits::crossing_fault(n, crossing), bench);
+    let lent = shaped::lent_fault(map, n, m, limits::crossing_fault(n, crossing), bench);
     if lent != 0 {
         return lent;
     }

@@ -6,19 +6,18 @@ use Prim.Native.Nat.{ℕ, _≤_}
 use native.Mathlib.Omega.{arith}
 use lib.ListN.{length, getD, drop}
 use borrow.Author.Tests.{eq-eqb, ne-eqb}
-use Rattle.limits.specs.Limits.{Between, roomFault}
+use Rattle.limits.specs.Limits.{Between}
 use Rattle.limits.specs.Said.{Said, told, refused, unlessRefused}
-use Rattle.limits.proofs.Laws.{orElse-first, orElse-second, orElse-none, outside-none, room-none}
-use Rattle.map.specs.Map.{Valid, mapFault}
+use Rattle.limits.proofs.Laws.{orElse-none, outside-none, room-none}
+use Rattle.map.specs.Map.{Valid}
 use Rattle.map.specs.declared.Side.{Side}
 use Rattle.map.proofs.Laws.{fault-valid}
 use Rattle.half.specs.Half.{dist, nearestOpen}
 use Rattle.rules.proofs.Laws.{next-is, done-none, done-by}
 use Rattle.shape.specs.Bench.{half, benchWords, words, parse, opened, WellShaped}
 use Rattle.shape.specs.Rules.{beyond, done, settledBy, turned, turnTold}
-use Rattle.shaped.specs.Shape.{shapeFault}
-use Rattle.shape.proofs.Rounds.{parse-room, words-parse}
-use Rattle.shaped.proofs.Shaped.{fault-shaped}
+use Rattle.shaped.specs.Lent.{lentFault}
+use Rattle.shape.proofs.Rounds.{words-parse}
 use Rattle.shape.proofs.Turns.{turned-done, turned-settles}
 use Rattle.bench.specs.Calls.{judged, orderFault, openFault, openSaid, openWords, turnFault, turnSaid, turnWords}
 
@@ -95,44 +94,13 @@ module _ (s : Side) (map : List ℕ) (n m : ℕ) (y : List ℕ) (room : benchWor
           let is = next-is s n y e same in
           (rw (q, is, f), p ∙ ap (λ (k : ℕ). words (settledBy s map k (parse n y))) (sym is) ∙ ap words (sym (turned-settles s map (parse n y) q)))
 
--- what a call has that is not refused before its turn
-pub record Ready (map : List ℕ) (n m : ℕ) (x : List ℕ) : Type 0 where
-  pub valid : Valid n m map
-  pub room : benchWords n ≤ length x
-  pub shaped : WellShaped n m (parse n x)
-
 module _ (map : List ℕ) (n m : ℕ) (x : List ℕ) where
-  module _ {fault : ℕ} (e : fault ≡ mapFault n m map) where
-    pub turn-map : (fault ≡ 0 → ⊥) → fault ≡ turnFault map n m x
-    unfolding turnFault
-    turn-map z = rw (← e) (sym (orElse-first _ _ z))
-
-    module _ (z : fault ≡ 0) {k room : ℕ} (h : k ≡ benchWords n) (f : room ≡ roomFault k (length x)) where
-      pub turn-sizes : room ≡ 0 → (n ≤ 4096) × (benchWords n ≤ length x)
-      turn-sizes w = (fault-valid n m map (sym e ∙ z) .n-in .most, room-none _ _ (ap (λ (l : ℕ). roomFault l (length x)) (sym h) ∙ sym f ∙ w))
-
-      pub turn-room : (room ≡ 0 → ⊥) → room ≡ turnFault map n m x
-      unfolding turnFault
-      turn-room w = rw (← e, ← h, ← f) (sym (orElse-second _ _ z ∙ orElse-first _ _ w))
-
-      pub turn-shape : room ≡ 0 → shapeFault n m (parse n x) ≡ turnFault map n m x
-      unfolding turnFault
-      turn-shape w = rw (← e, ← h, ← f) (sym (orElse-second _ _ z ∙ orElse-second _ _ w))
-
-  module _ {fault : ℕ} (e : fault ≡ turnFault map n m x) where
-    pub turn-ready : fault ≡ 0 → Ready map n m x
-    unfolding turnFault
-    turn-ready z =
-        let a = orElse-none _ _ (sym e ∙ z) in
-        let b = orElse-none _ _ (a .1) in
-        let r = room-none _ _ (b .0) in
-        record { valid = fault-valid n m map (a .0); room = r; shaped = fault-shaped (parse-room n x r) (b .1) }
-
+  module _ {fault : ℕ} (e : fault ≡ lentFault map n m 0 x) where
     pub turn-refused : (s : Side) → (fault ≡ 0 → ⊥) → (refused fault [] ≡ turnSaid s map n m x) × (x ≡ turnWords s map n m x)
-    unfolding turnWords turnSaid
+    unfolding turnWords turnSaid turnFault
     turn-refused s z = rw (← e) (judged-refused _ _ _ z)
 
     pub turn-goes : (s : Side) {answer : Said} {y : List ℕ} → fault ≡ 0 → answer ≡ turnTold s (parse n x) → y ≡ words (turned s map (parse n x))
         → (answer ≡ turnSaid s map n m x) × (y ≡ turnWords s map n m x)
-    unfolding turnWords turnSaid turnTold
+    unfolding turnWords turnSaid turnFault turnTold
     turn-goes s z p q = rw (← e) (judged-told x z p q)

@@ -12,7 +12,7 @@ use Rattle.map.specs.Map.{mapFault}
 use Rattle.map.specs.declared.Side.{Side}
 use Rattle.shape.specs.Bench.{benchWords, words, parse, opened}
 use Rattle.shape.specs.Rules.{turned, turnTold}
-use Rattle.shaped.specs.Shape.{shapeFault}
+use Rattle.shaped.specs.Lent.{lentFault}
 use Rattle.bench.specs.declared.Opening.{Opening}
 use Rattle.bench.specs.declared.Opening.the-variants as openings
 use Rattle.bench.specs.declared.Turn.{Turn}
@@ -56,10 +56,7 @@ saidTurn (turns.Refused number) = refused number []
 
 -- those of the map, bench 3, then 6
 unfoldable pub turnFault : List ℕ → ℕ → ℕ → List ℕ → ℕ
-turnFault map n m x =
-    orElse (mapFault n m map)
-    (orElse (roomFault (benchWords n) (length x))
-    (shapeFault n m (parse n x)))
+turnFault map n m x = lentFault map n m 0 x
 
 unfoldable pub turnSaid : Side → List ℕ → ℕ → ℕ → List ℕ → Said
 turnSaid s map n m x = judged (turnFault map n m x) (turnTold s (parse n x))

@@ -8,7 +8,7 @@ ghost use Rattle.map.specs.declared.Side.the-variants.{Forward, Backward};
 ghost use Rattle.shape.specs.Bench.{benchWords, words, parse, WellShaped};
 ghost use Rattle.shape.specs.Rules.{turned, turnTold};
 ghost use Rattle.area.specs.Finished.{routeFault};
-ghost use Rattle.bench.specs.Calls.{saidOpening, orderFault, openFault, openSaid, openWords, saidTurn, turnFault, turnSaid, turnWords};
+ghost use Rattle.bench.specs.Calls.{saidOpening, orderFault, openFault, openSaid, openWords, saidTurn, turnSaid, turnWords};
 ghost use Rattle.bench.specs.Areas.{saidFilling, areaSaid, areaMask};
 ghost use Rattle.bench.specs.Routes.{saidRouting, filledWords, routeSaid, routePart, routeBuffer};
 use map::Side;
@@ -106,25 +106,11 @@ fn advance(map: &[u32], n: usize, m: usize, side: Side, bench: &mut [u32]) -> Tu
     Turn::Settled(x as u32, d)
 }
 
-fn turn_fault(map: &[u32], n: u32, m: u32, bench: &[u32]) -> u32
-    ensures { λ r. ⌜ r ≡ turnFault (now (map .entry)) n m (now (bench .entry)) ⌝ }
-{
-    let fault = map::fault(map, n, m);
-    if fault != 0 {
-        return fault;
-    }
-    let room = limits::room_fault(shape::bench_words(n as usize), bench.len());
-    if room != 0 {
-        return room;
-    }
-    shaped::shape_fault(bench, n, m)
-}
-
 fn take_turn(map: &[u32], n: u32, m: u32, side: Side, bench: &mut [u32]) -> Turn
     ensures answer { λ r. ⌜ saidTurn r ≡ turnSaid side (now (map .entry)) n m (now (bench .entry)) ⌝ }
     ensures bench { λ _. ⌜ now (bench .exit) ≡ turnWords side (now (map .entry)) n m (now (bench .entry)) ⌝ }
 {
-    let fault = turn_fault(map, n, m, bench);
+    let fault = shaped::lent_fault(map, n, m, 0, bench);
     if fault != 0 {
         return Turn::Refused(fault);
     }

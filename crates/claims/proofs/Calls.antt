@@ -19,6 +19,7 @@ use Rattle.map.specs.declared.Side.the-variants.{Forward, Backward}
 use Rattle.shape.specs.Bench.{Bench, benchWords, words, opened, WellShaped}
 use Rattle.shape.specs.Rules.{turned, turnTold}
 use Rattle.shape.proofs.Rounds.{Room, shaped-room, parse-words}
+use Rattle.shaped.specs.Lent.{lentFault}
 use Rattle.shaped.proofs.Shaped.{shaped-fault, opened-shaped}
 use Rattle.shape.proofs.Turns.{turned-shaped}
 use Rattle.bench.specs.Calls.{judged, orderFault, openFault, openSaid, openWords, turnFault, turnSaid, turnWords}
@@ -35,10 +36,11 @@ words-long {n} {b} r =
 
 module _ {map : List ℕ} {n m : ℕ} (valid : Valid n m map) where
   turn-fine : {b : Bench} → WellShaped n m b → turnFault map n m (words b) ≡ 0
-  unfolding turnFault
+  unfolding turnFault lentFault
   turn-fine {b} w =
       none-orElse _ _ (valid-fault n m map valid)
-      (none-orElse _ _ (none-room _ _ (words-long (shaped-room w))) (rw (parse-words n b (shaped-room w)) (shaped-fault w)))
+      (none-orElse _ _ refl
+      (none-orElse _ _ (none-room _ _ (words-long (shaped-room w))) (rw (parse-words n b (shaped-room w)) (shaped-fault w))))
 
   turn-words : (s : Side) {b : Bench} → WellShaped n m b → turnWords s map n m (words b) ≡ words (turned s map b)
   unfolding turnWords turnSaid judged turnTold

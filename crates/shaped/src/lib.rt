@@ -1,4 +1,4 @@
-// The check of a bench's shape.
+// The check of a bench's shape, and of what every call on a bench is lent.
 ghost use mathlib.Core.Path.{_≡_};
 ghost use mathlib.Core.Bool.{_&&_};
 ghost use Prim.Native.Nat.{_*_, _≤_};
@@ -6,6 +6,7 @@ ghost use lib.Dec.{eqb};
 ghost use lib.ListN.{length};
 ghost use Rattle.shape.specs.Bench.{half as halfOf, benchWords, parse};
 ghost use Rattle.shaped.specs.Shape.{unlike as unlikeOf, unseenFault, seenFault, entryFault, halfFault, marksFault, sizeFault, endsFault, optimumFault, headFault, shapeFault};
+ghost use Rattle.shaped.specs.Lent.{lentFault};
 use half::Entry;
 use map::Side;
 
@@ -143,7 +144,7 @@ fn all_marks_fault(bench: &[u32], n: usize) -> u32
 }
 
 // 6 where the bench is not well shaped for a map of n crossings and m links, or 0.
-pub fn shape_fault(bench: &[u32], n: u32, m: u32) -> u32
+fn shape_fault(bench: &[u32], n: u32, m: u32) -> u32
     requires { ⌜ (n ≤ 4096) × (benchWords n ≤ length (now bench)) ⌝ }
     ensures { λ r. ⌜ r ≡ shapeFault n m (parse n (now (bench .entry))) ⌝ }
 {
@@ -156,4 +157,20 @@ pub fn shape_fault(bench: &[u32], n: u32, m: u32) -> u32
         head,
         limits::or_else(forward, limits::or_else(backward, marks)),
     )
+}
+
+// The map, then a number of the call's own, then the bench.
+pub fn lent_fault(map: &[u32], n: u32, m: u32, given: u32, bench: &[u32]) -> u32
+    ensures { λ r. ⌜ r ≡ lentFault (now (map .entry)) n m given (now (bench .entry)) ⌝ }
+{
+    let fault = map::fault(map, n, m);
+    if fault != 0 {
+        return fault;
+    }
+    let room = limits::room_fault(shape::bench_words(n as usize), bench.len());
+    let first = limits::or_else(given, room);
+    if first != 0 {
+        return first;
+    }
+    shape_fault(bench, n, m)
 }

@@ -1,9 +1,9 @@
--- `area::lent_fault` meets its contract. Assumes nothing.
-use Rattle.area.proofs.Laws.{lent-map, lent-first, lent-sizes, lent-shape}
+-- `shaped::lent_fault` meets its contract. Assumes nothing.
+use Rattle.shaped.proofs.Lent.{lent-map, lent-first, lent-sizes, lent-shape}
 use mathlib.Core.Path.{_∙_}
 use borrow.Author.Needs.{needs}
-use Rattle.area.proofs.lent_fault.Statement.{statement}
-use Rattle.area.proofs.lent_fault.Tie as tie
+use Rattle.shaped.proofs.lent_fault.Statement.{statement}
+use Rattle.shaped.proofs.lent_fault.Tie as tie
 
 fault-requires : tie.Need-fault-requires
 fault-requires c κs = search needs
