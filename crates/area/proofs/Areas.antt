@@ -6,11 +6,11 @@ use lib.Seq.{sets}
 use Rattle.limits.specs.Limits.{localityFault, roomFault}
 use Rattle.limits.proofs.Laws.{orElse-first, orElse-second, orElse-none, room-none}
 use Rattle.shape.specs.Bench.{parse}
+use Rattle.shaped.specs.Lent.{lentFault}
+use Rattle.shaped.proofs.Lent.{Ready, lent-ready}
 use Rattle.route.specs.Area.{maskFilled, maskOf}
 use Rattle.trail.specs.Trail.{Walkable}
 use Rattle.area.specs.Finished.{finishedFault, areaFault}
-use Rattle.shaped.specs.Lent.{lentFault}
-use Rattle.shaped.proofs.Lent.{Ready, lent-ready}
 use Rattle.area.proofs.Laws.{walkable-by}
 
 module _ (map : List ℕ) (n m : ℕ) (x : List ℕ) (locality room : ℕ) {given lent : ℕ} (q : given ≡ localityFault locality) (p : lent ≡ lentFault map n m given x) where

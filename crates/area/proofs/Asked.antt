@@ -10,14 +10,14 @@ use Rattle.limits.specs.Limits.{Between, crossingFault, roomFault}
 use Rattle.limits.proofs.Laws.{orElse-first, orElse-second, orElse-none, outside-none, room-none}
 use Rattle.map.specs.declared.Side.the-variants.{Forward, Backward}
 use Rattle.shape.specs.Bench.{half, halfAt, marksAt, parse}
+use Rattle.shaped.specs.Lent.{lentFault}
+use Rattle.shaped.proofs.Lent.{Ready, lent-ready}
 use Rattle.trail.specs.Trail.{Settled, Trails}
 use Rattle.route.specs.Area.{routeIn, routeOf}
 use Rattle.trail.proofs.Walking.{trail-short, step-trail}
 use Rattle.route.proofs.Routes.{route-size}
 use Rattle.area.specs.Asked.{Routed}
 use Rattle.area.specs.Finished.{finishedFault, askedFault, routeFault}
-use Rattle.shaped.specs.Lent.{lentFault}
-use Rattle.shaped.proofs.Lent.{Ready, lent-ready}
 use Rattle.area.proofs.Laws.{half-between, walkable-by}
 
 -- ---- the lent halves
