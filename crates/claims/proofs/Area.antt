@@ -22,7 +22,7 @@ use Rattle.claims.proofs.Turns.{not-beyond, stops, in-reach, covers}
 
 module _ {map : List ℕ} {n m start target stretch : ℕ} (order : Order map n m start target stretch) where
   -- a done half has settled every crossing in reach, at its least cost
-  reached : (s : Side) (k v c o : ℕ) → stops order s k ≡ true → Between 1 n v → Least s map m (root order s) v c → Route order o → 1000 * c ≤ stretch * o
+  pub reached : (s : Side) (k v c o : ℕ) → stops order s k ≡ true → Between 1 n v → Least s map m (root order s) v c → Route order o → 1000 * c ≤ stretch * o
       → (state n (after order s k) v ≡ 2) × (dist (after order s k) v ≡ c)
   reached s k v c o e cv p r le =
       let b : stretch * best order ≡ stretch * o = ap (λ (x : ℕ). stretch * x) (best-is order r) in

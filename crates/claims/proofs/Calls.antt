@@ -29,13 +29,13 @@ use Rattle.claims.proofs.Run.{run-opened}
 
 -- ---- a turn on the words of a well-shaped bench
 
-words-long : {n : ℕ} {b : Bench} → Room n b → benchWords n ≤ length (words b)
+pub words-long : {n : ℕ} {b : Bench} → Room n b → benchWords n ≤ length (words b)
 unfolding words
 words-long {n} {b} r =
     simp length-append (omega (arith, r .halves Forward, r .halves Backward, r .marks))
 
 module _ {map : List ℕ} {n m : ℕ} (valid : Valid n m map) where
-  turn-fine : {b : Bench} → WellShaped n m b → turnFault map n m (words b) ≡ 0
+  pub turn-fine : {b : Bench} → WellShaped n m b → turnFault map n m (words b) ≡ 0
   unfolding turnFault lentFault
   turn-fine {b} w =
       none-orElse _ _ (valid-fault n m map valid)

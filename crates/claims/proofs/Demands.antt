@@ -28,7 +28,7 @@ module _ {map : List ℕ} {n m start target stretch : ℕ} (order : Order map n 
   -- ---- the bench at two counts
 
   module _ (i j : ℕ) where
-    half-at : (s : Side) → half s (bench order past i j) ≡ after order s (bySide s i j)
+    pub half-at : (s : Side) → half s (bench order past i j) ≡ after order s (bySide s i j)
     unfolding benchAt
     half-at Forward = refl
     half-at Backward = refl
@@ -36,7 +36,7 @@ module _ {map : List ℕ} {n m start target stretch : ℕ} (order : Order map n 
     settled-at : (s : Side) → bySide s i j ≤ turns order s → settledCount n (half s (bench order past i j)) ≡ bySide s i j
     settled-at s le = ap (settledCount n) (half-at s) ∙ settled-turns order s (bySide s i j) le
 
-    stopped : (s : Side) → done s (bench order past i j) ≡ true → stops order s (bySide s i j) ≡ true
+    pub stopped : (s : Side) → done s (bench order past i j) ≡ true → stops order s (bySide s i j) ≡ true
     stopped s e = sym (done-stops order past s i j) ∙ e
 
     -- ---- demand 2

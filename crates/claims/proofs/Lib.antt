@@ -6,3 +6,6 @@ pub mod Run
 pub mod Area
 pub mod Demands
 pub mod Five
+pub mod Refusals
+pub mod Trails
+pub mod Afterward
