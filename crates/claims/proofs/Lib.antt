@@ -9,3 +9,4 @@ pub mod Five
 pub mod Refusals
 pub mod Trails
 pub mod Afterward
+pub mod Example
