@@ -20,11 +20,12 @@ use Rattle.half.specs.Half.{unknown, ceiling}
 use Rattle.shape.specs.Bench.{Bench, half, words, parse, WellShaped}
 use Rattle.shape.specs.Rules.{known, done}
 use Rattle.shape.proofs.Rounds.{shaped-room, parse-words}
-use Rattle.shape.proofs.Shaped.{shaped-fault}
+use Rattle.shaped.specs.Lent.{lentFault}
+use Rattle.shaped.proofs.Shaped.{shaped-fault}
 use Rattle.trail.specs.Sound.{SoundHalf}
 use Rattle.trail.proofs.Soundness.{sound-fault, marks-fault}
 use Rattle.route.specs.Area.{routeOf}
-use Rattle.area.specs.Finished.{doneFault, unknownFault, ruleFault, trailsFault, finishedFault, lentFault, areaFault, askedFault, routeFault}
+use Rattle.area.specs.Finished.{doneFault, unknownFault, ruleFault, trailsFault, finishedFault, areaFault, askedFault, routeFault}
 use Rattle.claims.specs.Mixture.{Order, bySide, benchAt}
 use Rattle.claims.specs.Demands.{InArea, Route, Finished, NoWalk}
 use Rattle.nearest.proofs.Theorems.{least-ceiling}
