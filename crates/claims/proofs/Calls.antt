@@ -11,7 +11,8 @@ use lib.Seq.{drop-cons}
 use Rattle.limits.specs.Said.{told, refused}
 use Rattle.limits.proofs.Said.{refused-told}
 use Rattle.limits.proofs.Cases.{cond-then}
-use Rattle.limits.proofs.Laws.{orElse-none, none-orElse, outside-none, none-room}
+use Rattle.limits.specs.First.{orElse}
+use Rattle.limits.proofs.Laws.{orElse-second, orElse-none, orElse-zero, none-orElse, outside-none, none-room}
 use Rattle.map.specs.Map.{Valid}
 use Rattle.map.proofs.Laws.{fault-valid, valid-fault}
 use Rattle.map.specs.declared.Side.{Side}
@@ -29,18 +30,22 @@ use Rattle.claims.proofs.Run.{run-opened}
 
 -- ---- a turn on the words of a well-shaped bench
 
-pub words-long : {n : ℕ} {b : Bench} → Room n b → benchWords n ≤ length (words b)
+words-long : {n : ℕ} {b : Bench} → Room n b → benchWords n ≤ length (words b)
 unfolding words
 words-long {n} {b} r =
     simp length-append (omega (arith, r .halves Forward, r .halves Backward, r .marks))
 
 module _ {map : List ℕ} {n m : ℕ} (valid : Valid n m map) where
+  pub lent-fine : {b : Bench} → WellShaped n m b → (given : ℕ) → lentFault map n m given (words b) ≡ given
+  unfolding lentFault
+  lent-fine {b} w given =
+      orElse-second _ _ (valid-fault n m map valid)
+      ∙ ap (orElse given) (none-orElse _ _ (none-room _ _ (words-long (shaped-room w))) (rw (parse-words n b (shaped-room w)) (shaped-fault w)))
+      ∙ orElse-zero given
+
   pub turn-fine : {b : Bench} → WellShaped n m b → turnFault map n m (words b) ≡ 0
-  unfolding turnFault lentFault
-  turn-fine {b} w =
-      none-orElse _ _ (valid-fault n m map valid)
-      (none-orElse _ _ refl
-      (none-orElse _ _ (none-room _ _ (words-long (shaped-room w))) (rw (parse-words n b (shaped-room w)) (shaped-fault w))))
+  unfolding turnFault
+  turn-fine w = lent-fine w 0
 
   turn-words : (s : Side) {b : Bench} → WellShaped n m b → turnWords s map n m (words b) ≡ words (turned s map b)
   unfolding turnWords turnSaid judged turnTold

@@ -6,14 +6,13 @@ use mathlib.Core.List.{List}
 use Prim.Native.Nat.{ℕ, _-_, _≤_}
 use native.Mathlib.Decide.{ℕ-discrete}
 use native.Mathlib.Omega.{arith}
-use lib.Dec.{eqb, ltb}
+use lib.Dec.{eqb}
 use lib.ListN.{length, getD}
 use borrow.Author.Tests.{eq-eqb, ne-eqb, eqb-true, eqb-false, not-false}
 use Rattle.limits.specs.First.{orElse}
-use Rattle.limits.specs.Limits.{Between, numberOutside, crossingFault, localityFault, roomFault}
+use Rattle.limits.specs.Limits.{Between, crossingFault, localityFault, roomFault}
 use Rattle.limits.proofs.Cases.{and-both, cond-both, cond-then, cond-else}
-use Rattle.limits.proofs.Laws.{orElse-first, orElse-second, orElse-none, none-orElse, outside-none, none-outside, none-room}
-use Rattle.map.proofs.Laws.{valid-fault}
+use Rattle.limits.proofs.Laws.{orElse-first, orElse-second, orElse-none, orElse-zero, none-orElse, orElse-both, outside-both, room-both, outside-none, none-outside, none-room}
 use Rattle.map.specs.declared.Side.{Side}
 use Rattle.map.specs.declared.Side.the-variants.{Forward, Backward}
 use Rattle.half.specs.Half.{unknown, ceiling}
@@ -21,7 +20,6 @@ use Rattle.shape.specs.Bench.{Bench, half, words, parse, WellShaped}
 use Rattle.shape.specs.Rules.{known, done}
 use Rattle.shape.proofs.Rounds.{shaped-room, parse-words}
 use Rattle.shaped.specs.Lent.{lentFault}
-use Rattle.shaped.proofs.Shaped.{shaped-fault}
 use Rattle.trail.specs.Sound.{SoundHalf}
 use Rattle.trail.proofs.Soundness.{sound-fault, marks-fault}
 use Rattle.route.specs.Area.{routeOf}
@@ -32,33 +30,18 @@ use Rattle.nearest.proofs.Theorems.{least-ceiling}
 use Rattle.claims.proofs.Optimum.{known-low, known-unknown}
 use Rattle.claims.proofs.Run.{bench}
 use Rattle.claims.proofs.Demands.{demand-2-at, sound-at}
-use Rattle.claims.proofs.Calls.{words-long}
+use Rattle.claims.proofs.Calls.{lent-fine}
 
 -- ---- which numbers a check can give
 
 module _ (P : ℕ → Type 0) where
-  or-either : (a b : ℕ) → P a → P b → P (orElse a b)
-  unfolding orElse
-  or-either a b p q = cond-both P (eqb a 0) q p
-
-  outside-either : (low high number x : ℕ) → P number → P 0 → P (numberOutside low high number x)
-  unfolding numberOutside
-  outside-either low high number x p q = cond-both P (ltb x low) p (cond-both P (ltb high x) p q)
-
-  room-either : (needed lent : ℕ) → P 3 → P 0 → P (roomFault needed lent)
-  unfolding roomFault
-  room-either needed lent p q = cond-both P (ltb lent needed) p q
-
-  unready-either : (b : Bench) → P 8 → P 9 → P 0 → P (orElse (doneFault b) (unknownFault b))
+  unready-both : (b : Bench) → P 8 → P 9 → P 0 → P (orElse (doneFault b) (unknownFault b))
   unfolding doneFault unknownFault
-  unready-either b p q r = or-either _ _ (cond-both P (done Forward b && done Backward b) r p) (cond-both P (known (b .optimum)) r q)
+  unready-both b p q r = orElse-both P _ _ (cond-both P (done Forward b && done Backward b) r p) (cond-both P (known (b .optimum)) r q)
 
-  asked-either : (map : List ℕ) (b : Bench) (v room : ℕ) → P 10 → P 3 → P 0 → P (askedFault map b v room)
+  asked-both : (map : List ℕ) (b : Bench) (v room : ℕ) → P 10 → P 3 → P 0 → P (askedFault map b v room)
   unfolding askedFault
-  asked-either map b v room p q r = or-either _ _ (cond-both P (eqb (getD (b .marks) (v - 1) 0) 0) p r) (room-either (length (routeOf map b v)) room q r)
-
-or-none : (a : ℕ) → orElse a 0 ≡ a
-or-none a = dite (ℕ-discrete a 0) (λ z. orElse-second _ _ z ∙ sym z) (λ ne. orElse-first _ _ ne)
+  asked-both map b v room p q r = orElse-both P _ _ (cond-both P (eqb (getD (b .marks) (v - 1) 0) 0) p r) (room-both P (length (routeOf map b v)) room q r)
 
 -- ---- both halves done, and a route known
 
@@ -117,16 +100,12 @@ module _ {map : List ℕ} {n m start target stretch : ℕ} (order : Order map n 
   unfolding finishedFault
   finished-is =
       dite (ℕ-discrete (doneFault b) 0)
-      (λ z. ap (λ (k : ℕ). orElse (doneFault b) (orElse (unknownFault b) k)) (trails-fine (fault-done b z)) ∙ ap (orElse (doneFault b)) (or-none (unknownFault b)))
+      (λ z. ap (λ (k : ℕ). orElse (doneFault b) (orElse (unknownFault b) k)) (trails-fine (fault-done b z)) ∙ ap (orElse (doneFault b)) (orElse-zero (unknownFault b)))
       (λ ne. orElse-first _ _ ne ∙ sym (orElse-first _ _ ne))
 
   -- nor are the map, the room for the bench and 6
   lent-is : (given : ℕ) → lentFault map n m given (words b) ≡ given
-  unfolding lentFault
-  lent-is given =
-      orElse-second _ _ (valid-fault n m map (order .valid))
-      ∙ ap (orElse given) (none-orElse _ _ (none-room _ _ (words-long (shaped-room shaped))) (rw parse-back (shaped-fault shaped)))
-      ∙ or-none given
+  lent-is = lent-fine (order .valid) shaped
 
   area-is : (locality room : ℕ) → areaFault map n m (words b) locality room ≡ orElse (localityFault locality) (orElse (roomFault n room) (orElse (doneFault b) (unknownFault b)))
   unfolding areaFault
@@ -163,14 +142,14 @@ module _ {map : List ℕ} {n m start target stretch : ℕ} (order : Order map n 
   pub area-fine : (locality room : ℕ) → Fine (areaFault map n m (words b) locality room)
   area-fine locality room =
       rw (area-is locality room)
-      (or-either Fine _ _ (outside-either Fine _ _ 5 locality (omega arith) (omega arith))
-      (or-either Fine _ _ (room-either Fine n room (omega arith) (omega arith)) (unready-either Fine b (omega arith) (omega arith) (omega arith))))
+      (orElse-both Fine _ _ (outside-both Fine _ _ 5 locality (omega arith) (omega arith))
+      (orElse-both Fine _ _ (room-both Fine n room (omega arith) (omega arith)) (unready-both Fine b (omega arith) (omega arith) (omega arith))))
 
   pub route-fine : (v room : ℕ) → Fine (routeFault map n m (words b) v room)
   route-fine v room =
       rw (route-is v room)
-      (or-either Fine _ _ (outside-either Fine _ _ 4 v (omega arith) (omega arith))
-      (or-either Fine _ _ (unready-either Fine b (omega arith) (omega arith) (omega arith)) (asked-either Fine map b v room (omega arith) (omega arith) (omega arith))))
+      (orElse-both Fine _ _ (outside-both Fine _ _ 4 v (omega arith) (omega arith))
+      (orElse-both Fine _ _ (unready-both Fine b (omega arith) (omega arith) (omega arith)) (asked-both Fine map b v room (omega arith) (omega arith) (omega arith))))
 
   -- ---- 9
 
@@ -211,7 +190,7 @@ module _ {map : List ℕ} {n m start target stretch : ℕ} (order : Order map n 
     route-none v room cv =
         let e = route-left v room cv in (
           λ z. unknown-none .0 (dite (ℕ-discrete (unknownFault b) 0)
-              (λ y. absurd (asked-either (λ (k : ℕ). k ≢ 9) map b v room (omega arith) (omega arith) (omega arith) (sym (e ∙ orElse-second _ _ y) ∙ z)))
+              (λ y. absurd (asked-both (λ (k : ℕ). k ≢ 9) map b v room (omega arith) (omega arith) (omega arith) (sym (e ∙ orElse-second _ _ y) ∙ z)))
               (λ ne. sym (e ∙ orElse-first _ _ ne) ∙ z)),
           λ f. let u = unknown-none .1 f in e ∙ orElse-first _ _ (λ y. omega arith) ∙ u,
         )
@@ -236,7 +215,7 @@ module _ {map : List ℕ} {n m start target stretch : ℕ} (order : Order map n 
         let marked = demand-2-at order past i j .marked-area d v cv in (
           λ z p.
               let one = marked .1 p in
-              room-either (λ (k : ℕ). k ≢ 10) (length (routeOf map b v)) room (omega arith) (omega arith)
+              room-both (λ (k : ℕ). k ≢ 10) (length (routeOf map b v)) room (omega arith) (omega arith)
               (sym (e ∙ marked-asked v room (λ y. omega arith)) ∙ z),
           λ f.
               dite (ℕ-discrete (getD (b .marks) (v - 1) 0) 0)

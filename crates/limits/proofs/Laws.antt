@@ -9,7 +9,7 @@ use lib.Dec.{eqb, ltb}
 use borrow.Author.Tests.{eq-eqb, ne-eqb, eqb-true, eqb-false, ltb-false, le-ltb}
 use Rattle.limits.specs.First.{orElse, firstFrom}
 use Rattle.limits.specs.Limits.{Between, numberOutside, roomFault}
-use Rattle.limits.proofs.Cases.{cond-else}
+use Rattle.limits.proofs.Cases.{cond-both, cond-cases, cond-else}
 
 -- ---- the first of two
 
@@ -38,6 +38,30 @@ orElse-assoc a b c = go (ℕ-discrete a 0)
 
 pub none-orElse : (a b : ℕ) → a ≡ 0 → b ≡ 0 → orElse a b ≡ 0
 none-orElse a b p q = orElse-second a b p ∙ q
+
+pub orElse-zero : (a : ℕ) → orElse a 0 ≡ a
+unfolding orElse
+orElse-zero a = cond-cases (λ (k : ℕ). k ≡ a) (eqb a 0) (λ e. sym (eqb-true _ _ e)) (λ e. refl)
+
+-- ---- what holds of every number that a check can give
+
+module _ (P : ℕ → Type 0) where
+  pub orElse-both : (a b : ℕ) → P a → P b → P (orElse a b)
+  unfolding orElse
+  orElse-both a b p q = cond-both P (eqb a 0) q p
+
+  pub outside-both : (low high number x : ℕ) → P number → P 0 → P (numberOutside low high number x)
+  unfolding numberOutside
+  outside-both low high number x p q = cond-both P (ltb x low) p (cond-both P (ltb high x) p q)
+
+  pub room-both : (needed lent : ℕ) → P 3 → P 0 → P (roomFault needed lent)
+  unfolding roomFault
+  room-both needed lent p q = cond-both P (ltb lent needed) p q
+
+  pub first-both : (f : ℕ → ℕ) → ((j : ℕ) → P (f j)) → P 0 → (i k : ℕ) → P (firstFrom f i k)
+  unfolding firstFrom
+  first-both f p q i zero = q
+  first-both f p q i (suc k) = orElse-both _ _ (p i) (first-both f p q (suc i) k)
 
 -- ---- the first of many
 
