@@ -1,0 +1,3 @@
+pub mod Numbers
+pub mod Packs
+pub mod Reading
