@@ -5,6 +5,7 @@ pub mod Turns
 pub mod Run
 pub mod Area
 pub mod Demands
+pub mod Computed
 pub mod Five
 pub mod Refusals
 pub mod Trails

@@ -1,49 +1,69 @@
--- The starred rows of "Five crossings to check by" about turns, optimum and marks, as one table. Assumes nothing.
-use mathlib.Core.Bool.{cond, _&&_}
+-- The starred rows of "Five crossings to check by", as one table about what the public calls promise: the words that opening and turns leave,
+-- what a turn answers, the mask of the area call and the part that the route call hands back. Assumes nothing.
+use mathlib.Core.Bool.{cond}
 use mathlib.Core.List.{List, [], _∷_, _++_}
 use Prim.Native.Nat.{ℕ, suc}
-use lib.Dec.{eqb}
+use lib.Dec.{leb}
 use lib.ListN.{replicate}
-use Rattle.limits.specs.Said.{Said, told, refused}
+use Rattle.limits.specs.Said.{Said, told, refused, unlessRefused}
 use Rattle.map.specs.declared.Side.{Side}
 use Rattle.map.specs.declared.Side.the-variants.{Forward, Backward}
 use Rattle.half.specs.Half.{unknown}
-use Rattle.shape.specs.Bench.{Bench, opened}
-use Rattle.shape.specs.Rules.{known, done, turnTold}
-use Rattle.claims.specs.Mixture.{run}
+use Rattle.shape.specs.Bench.{parse}
+use Rattle.bench.specs.Calls.{openWords, turnSaid}
+use Rattle.bench.specs.Areas.{areaSaid, areaMask}
+use Rattle.bench.specs.Routes.{routeSaid, routePart}
+use Rattle.claims.specs.Calls.{turnsWords}
 
 -- the links 1 to 7
 abbrev pub five : List ℕ
 five = 1 ∷ 2 ∷ 4 ∷ 2 ∷ 5 ∷ 6 ∷ 1 ∷ 3 ∷ 5 ∷ 3 ∷ 5 ∷ 6 ∷ 2 ∷ 4 ∷ 1 ∷ 4 ∷ 2 ∷ 1 ∷ 5 ∷ 1 ∷ 9 ∷ []
 
--- what a row looks at
+-- the lent words after opening a bench of 41 of them on the first m links, then i turns forward and j backward
+unfoldable pub fiveAfter : ℕ → ℕ → ℕ → ℕ → ℕ → ℕ → List ℕ
+fiveAfter m start target stretch i j =
+    turnsWords five 5 m (replicate i 0 ++ replicate j 1) (openWords five 5 m start target stretch (replicate 41 0))
+
+-- what a row looks at: the next turn of a side; the optimum; the marks; B; BL with a locality; the route through a crossing
 pub data Look : Type 0 where
   turn : Side → Look
   optimum : Look
   marks : Look
   area : Look
+  local : ℕ → Look
+  route : ℕ → Look
 
--- the crossings with mark 1, the first of these marks being crossing v's
-unfoldable pub markedFrom : ℕ → List ℕ → List ℕ
-markedFrom v [] = []
-markedFrom v (x ∷ rest) = cond (eqb x 1) (v ∷ markedFrom (suc v) rest) (markedFrom (suc v) rest)
+-- the crossings whose byte or mark is at least low, the first of these being crossing v's
+unfoldable pub crossingsFrom : ℕ → ℕ → List ℕ → List ℕ
+crossingsFrom low v [] = []
+crossingsFrom low v (x ∷ rest) = cond (leb low x) (v ∷ crossingsFrom low (suc v) rest) (crossingsFrom low (suc v) rest)
 
--- B needs both halves done and a route
-unfoldable pub areaSaid : Bench → Said
-areaSaid b = cond (done Forward b && done Backward b) (cond (known (b .optimum)) (told (markedFrom 1 (b .marks))) (refused 9 [])) (refused 8 [])
+-- the crossings that the area call gives such a byte in a mask of 5, or its refusal
+unfoldable pub areaShown : ℕ → ℕ → List ℕ → ℕ → Said
+areaShown low m x locality =
+    let said = areaSaid five 5 m x locality (replicate 5 0) in
+    unlessRefused said (told (crossingsFrom low 1 (areaMask five 5 m x locality (replicate 5 0)))) said
 
-unfoldable pub shown : Look → Bench → Said
-shown (turn s) b = turnTold s b
-shown optimum b = told (b .optimum ∷ [])
-shown marks b = told (markedFrom 1 (b .marks))
-shown area b = areaSaid b
+-- the part of a buffer of 5 words that the route call hands back, or its refusal
+unfoldable pub routeShown : ℕ → List ℕ → ℕ → Said
+routeShown m x crossing =
+    let said = routeSaid five 5 m x crossing (replicate 5 0) in
+    unlessRefused said (told (routePart five 5 m x crossing (replicate 5 0))) said
+
+unfoldable pub shown : Look → ℕ → List ℕ → Said
+shown (turn s) m x = turnSaid s five 5 m x
+shown optimum m x = told (parse 5 x .optimum ∷ [])
+shown marks m x = told (crossingsFrom 1 1 (parse 5 x .marks))
+shown area m x = areaShown 1 m x 0
+shown (local locality) m x = areaShown 2 m x locality
+shown (route crossing) m x = routeShown m x crossing
 
 -- links, start, target, stretch; so many turns forward, so many backward; what is then looked at, and what it shows
 pub data Row : Type 0 where
   row : ℕ → ℕ → ℕ → ℕ → ℕ → ℕ → Look → Said → Row
 
 unfoldable pub rowShows : Row → Said
-rowShows (row m start target stretch i j look said) = shown look (run five (replicate i Forward ++ replicate j Backward) (opened 5 m start target stretch []))
+rowShows (row m start target stretch i j look said) = shown look m (fiveAfter m start target stretch i j)
 
 unfoldable pub rowSays : Row → Said
 rowSays (row m start target stretch i j look said) = said
@@ -77,6 +97,13 @@ rows =
     ∷ row 7 1 5 1200 4 4 optimum (told (unknown ∷ []))
     ∷ row 7 1 5 1200 4 4 marks (told [])
     ∷ row 7 1 5 1200 5 4 marks (told (2 ∷ 3 ∷ 4 ∷ 5 ∷ []))
+    -- "locality 0, BL is all; 1: without 4; 4: the same; 5: 1 2 5"
+    ∷ row 7 1 5 1200 5 5 (local 0) (told (1 ∷ 2 ∷ 3 ∷ 4 ∷ 5 ∷ []))
+    ∷ row 7 1 5 1200 5 5 (local 1) (told (1 ∷ 2 ∷ 3 ∷ 5 ∷ []))
+    ∷ row 7 1 5 1200 5 5 (local 4) (told (1 ∷ 2 ∷ 3 ∷ 5 ∷ []))
+    ∷ row 7 1 5 1200 5 5 (local 5) (told (1 ∷ 2 ∷ 5 ∷ []))
+    -- "route through 4 is 1 2 4 2 5"
+    ∷ row 7 1 5 1200 5 5 (route 4) (told (1 ∷ 2 ∷ 4 ∷ 2 ∷ 5 ∷ []))
     -- "Start and target 3, stretch 4,000: optimum 0, B is 3."
     ∷ row 7 3 3 4000 5 5 optimum (told (0 ∷ []))
     ∷ row 7 3 3 4000 5 5 area (told (3 ∷ []))
@@ -86,4 +113,5 @@ rows =
     ∷ row 6 5 1 1000 1 1 (turn Forward) (told [])
     ∷ row 6 5 1 1000 1 1 (turn Backward) (told [])
     ∷ row 6 5 1 1000 1 1 area (refused 9 [])
+    ∷ row 6 5 1 1000 1 1 (route 5) (refused 9 [])
     ∷ []
