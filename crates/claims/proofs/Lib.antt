@@ -7,6 +7,8 @@ pub mod Area
 pub mod Demands
 pub mod Computed
 pub mod Five
+pub mod Orders
+pub mod Sharp
 pub mod Refusals
 pub mod Trails
 pub mod Afterward
