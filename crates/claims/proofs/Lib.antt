@@ -9,6 +9,11 @@ pub mod Computed
 pub mod Five
 pub mod Orders
 pub mod Sharp
+pub mod Numbers
+pub mod Table
+pub mod Promises
+pub mod Contracts
+pub mod Worthless
 pub mod Refusals
 pub mod Trails
 pub mod Afterward

@@ -2,5 +2,8 @@ pub mod Calls
 pub mod Mixture
 pub mod Demands
 pub mod Five
+pub mod Table
+pub mod Promises
+pub mod Worthless
 pub mod Trails
 pub mod Afterward

@@ -1,0 +1,71 @@
+-- What the table of promises says of each public call is what its contract says, as the checker reads it: nothing is asked of the arguments, and
+-- what is ensured of the answer and of the memory at exit is the promise. The arguments a and what is left at exit e stand in the order of
+-- the parameters. Assumes nothing.
+use lib.ListN.{length}
+use denote.Ref.{ptr}
+use Rattle.map.specs.declared.Side.the-variants.{Forward, Backward}
+use Rattle.text.proofs.read.Reads as reading
+use Rattle.map.proofs.fault.Reads as judging
+use Rattle.bench.proofs.open_bench.Reads as opening
+use Rattle.bench.proofs.forward.Reads as going
+use Rattle.bench.proofs.backward.Reads as coming
+use Rattle.bench.proofs.area.Reads as masking
+use Rattle.bench.proofs.fill_route.Reads as filling
+use Rattle.bench.proofs.route.Reads as handing
+use Rattle.bench.proofs.route_refusal.Reads as asking
+use Rattle.claims.proofs.mixture.Reads as mixing
+use Rattle.map.specs.Map.{mapFault}
+use Rattle.area.specs.Finished.{routeFault}
+use mathlib.Core.Path.{_≡_}
+use Rattle.claims.specs.Promises.{Read, Open, TakeTurn, FillMask, FillRoute, HandRoute, Mix}
+
+pub read-contract : (κs : _) (a : _) → reading.Pre κs a × ((r : _) (e : _) → reading.Post κs a r e → Read (a .0 .now) (a .1 .0 .now) r (e .1 .0 .now))
+read-contract κs a = (tt, λ r e p. p)
+
+pub fault-contract : (κs : _) (a : _) → judging.Pre κs a × ((r : _) (e : _) → judging.Post κs a r e → r ≡ mapFault (a .1 .0) (a .1 .1 .0) (a .0 .now))
+fault-contract κs a = (tt, λ r e p. p)
+
+pub open-contract : (κs : _) (a : _)
+    → opening.Pre κs a
+    × ((r : _) (e : _) → opening.Post κs a r e
+    → Open (a .0 .now) (a .1 .0) (a .1 .1 .0) (a .1 .1 .1 .0) (a .1 .1 .1 .1 .0) (a .1 .1 .1 .1 .1 .0) (a .1 .1 .1 .1 .1 .1 .0 .now) r (e .1 .1 .1 .1 .1 .1 .0 .now))
+open-contract κs a = (tt, λ r e p. p)
+
+pub forward-contract : (κs : _) (a : _)
+    → going.Pre κs a × ((r : _) (e : _) → going.Post κs a r e → TakeTurn Forward (a .0 .now) (a .1 .0) (a .1 .1 .0) (a .1 .1 .1 .0 .now) r (e .1 .1 .1 .0 .now))
+forward-contract κs a = (tt, λ r e p. p)
+
+pub backward-contract : (κs : _) (a : _)
+    → coming.Pre κs a × ((r : _) (e : _) → coming.Post κs a r e → TakeTurn Backward (a .0 .now) (a .1 .0) (a .1 .1 .0) (a .1 .1 .1 .0 .now) r (e .1 .1 .1 .0 .now))
+backward-contract κs a = (tt, λ r e p. p)
+
+pub area-contract : (κs : _) (a : _)
+    → masking.Pre κs a
+    × ((r : _) (e : _) → masking.Post κs a r e
+    → FillMask (a .0 .now) (a .1 .0) (a .1 .1 .0) (a .1 .1 .1 .0 .now) (a .1 .1 .1 .1 .0) (a .1 .1 .1 .1 .1 .0 .now) r (e .1 .1 .1 .1 .1 .0 .now))
+area-contract κs a = (tt, λ r e p. p)
+
+pub fill-contract : (κs : _) (a : _)
+    → filling.Pre κs a
+    × ((r : _) (e : _) → filling.Post κs a r e
+    → FillRoute (a .0 .now) (a .1 .0) (a .1 .1 .0) (a .1 .1 .1 .0 .now) (a .1 .1 .1 .1 .0) (a .1 .1 .1 .1 .1 .0 .now) r (e .1 .1 .1 .1 .1 .0 .now))
+fill-contract κs a = (tt, λ r e p. p)
+
+pub route-contract : (κs : _) (a : _)
+    → handing.Pre κs a
+    × ((r : _) (e : _) → handing.Post κs a r e
+    → HandRoute (a .0 .now) (a .1 .0) (a .1 .1 .0) (a .1 .1 .1 .0 .now) (a .1 .1 .1 .1 .0) (a .1 .1 .1 .1 .1 .0 .now) (ptr (a .1 .1 .1 .1 .1 .0)) (r .now) (ptr r))
+route-contract κs a = (tt, λ r e p. p)
+
+pub refusal-contract : (κs : _) (a : _)
+    → asking.Pre κs a
+    × ((r : _) (e : _) → asking.Post κs a r e
+    → r ≡ routeFault (a .0 .now) (a .1 .0) (a .1 .1 .0) (a .1 .1 .1 .0 .now) (a .1 .1 .1 .1 .0) (length (a .1 .1 .1 .1 .1 .0 .now)))
+refusal-contract κs a = (tt, λ r e p. p)
+
+pub mixture-contract : (κs : _) (a : _)
+    → mixing.Pre κs a
+    × ((r : _) (e : _) → mixing.Post κs a r e
+    → Mix (a .0 .now) (a .1 .0) (a .1 .1 .0) (a .1 .1 .1 .0) (a .1 .1 .1 .1 .0) (a .1 .1 .1 .1 .1 .0) (a .1 .1 .1 .1 .1 .1 .1 .0 .now) (a .1 .1 .1 .1 .1 .1 .0 .now) r
+    (e .1 .1 .1 .1 .1 .1 .0 .now))
+mixture-contract κs a = (tt, λ r e p. p)

@@ -1,0 +1,218 @@
+-- With which number a check refuses: each of its parts with the same one; and the reader with 1 to 5. Assumes nothing.
+use mathlib.Core.Path.{_≡_, refl}
+use mathlib.Core.Bool.{Bool, cond, _&&_}
+use mathlib.Core.Logic.{_≢_}
+use mathlib.Core.List.{List, [], _∷_}
+use Prim.Native.Nat.{ℕ, zero, suc, _+_, _-_}
+use native.Mathlib.Omega.{arith}
+use borrow.Author.Tests.{eqb-false}
+use lib.Dec.{eqb, ltb, leb}
+use lib.ListN.{length, getD}
+use Rattle.limits.specs.First.{orElse}
+use Rattle.limits.specs.Limits.{Between, numberOutside, roomFault}
+use Rattle.limits.specs.Said.{Said, told, refused}
+use Rattle.limits.proofs.Cases.{cond-both, cond-cases}
+use Rattle.limits.proofs.Said.{told-refused}
+use Rattle.line.specs.Line.{lineOf}
+use Rattle.line.specs.Lines.{linesOf}
+use Rattle.line.specs.declared.Field.{Field}
+use Rattle.line.specs.declared.Line.{Line}
+use Rattle.line.specs.declared.Line.the-variants.{Comment, Size, Link, Strange, Wrong}
+use Rattle.step.specs.Step.{stateOf, firstOf, sizeFault, linkFault, stepBy, sizeStep, linkStep, taken, stepThen}
+use Rattle.step.specs.declared.Fault.{Fault}
+use Rattle.step.specs.declared.State.{State}
+use Rattle.step.specs.declared.Step.{Step}
+use Rattle.step.specs.declared.Step.the-variants.{Go, Stop}
+use Rattle.text.specs.Text.{finish, readLines, readText}
+use Rattle.map.specs.Map.{cost}
+use Rattle.map.specs.Walk.{near, far}
+use Rattle.map.specs.declared.Side.{Side}
+use Rattle.map.specs.declared.Side.the-variants.{Forward, Backward}
+use Rattle.half.specs.Fold.{upTo}
+use Rattle.half.specs.Half.{unknown, ceiling, dist, link, state, entry}
+use Rattle.half.specs.declared.Entry.{Entry}
+use Rattle.shape.specs.Bench.{Bench}
+use Rattle.shape.specs.Rules.{known, done, mark}
+use Rattle.shaped.specs.Shape as shape
+use Rattle.trail.specs.Sound as sound
+use Rattle.area.specs.Finished.{doneFault, unknownFault, ruleFault, trailsFault}
+
+module _ (number : ℕ) where
+  -- no refusal, or one with this number
+  abbrev pub Only : ℕ → Type 0
+  Only fault = fault ≢ 0 → fault ≡ number
+
+  none : Only 0
+  none ne = absurd (ne refl)
+
+  this : Only number
+  this _ = refl
+
+  either : (a b : ℕ) → Only a → Only b → Only (orElse a b)
+  unfolding orElse
+  either a b p q = cond-both Only (eqb a 0) q p
+
+  unless-only : (t : Bool) → Only (cond t 0 number)
+  unless-only t = cond-both Only t none this
+
+  pub where-only : (t : Bool) → Only (cond t number 0)
+  where-only t = cond-both Only t this none
+
+  pub outside-only : (low high x : ℕ) → Only (numberOutside low high number x)
+  unfolding numberOutside
+  outside-only low high x = cond-both Only (ltb x low) this (where-only (ltb high x))
+
+pub room-only : (needed lent : ℕ) → Only 3 (roomFault needed lent)
+unfolding roomFault
+room-only needed lent = where-only 3 (ltb lent needed)
+
+-- ---- 6: not well shaped
+
+unlike-only : (a b : ℕ) → Only 6 (shape.unlike a b)
+unfolding shape.unlike
+unlike-only a b = unless-only 6 (eqb a b)
+
+optimum-only : (o : ℕ) → Only 6 (shape.optimumFault o)
+unfolding shape.optimumFault
+optimum-only o = cond-both (Only 6) (eqb o unknown) (none 6) (outside-only 6 0 ceiling o)
+
+half-only : (n m : ℕ) (h : List ℕ) → Only 6 (shape.halfFault n m h)
+unfolding shape.halfFault
+half-only n m h = unless-only 6 (shape.allFine (λ v. shape.entryFault m (entry n h v)) n)
+
+marks-only : (n : ℕ) (marks : List ℕ) → Only 6 (shape.marksFault n marks)
+unfolding shape.marksFault
+marks-only n marks = unless-only 6 (shape.allFine (λ v. numberOutside 0 1 6 (getD marks (v - 1) 0)) n)
+
+pub shape-only : (n m : ℕ) (b : Bench) → Only 6 (shape.shapeFault n m b)
+unfolding shape.shapeFault shape.headFault shape.sizeFault shape.endsFault
+shape-only n m b =
+    either 6 _ _
+    (either 6 _ _ (either 6 _ _ (unlike-only _ _) (unlike-only _ _))
+    (either 6 _ _ (either 6 _ _ (outside-only 6 _ _ _) (outside-only 6 _ _ _))
+    (either 6 _ _ (outside-only 6 _ _ _) (optimum-only _))))
+    (either 6 _ _ (half-only n m _) (either 6 _ _ (half-only n m _) (marks-only n _)))
+
+-- ---- 7: trails not sound
+
+faults-only : (f : ℕ → ℕ) (k : ℕ) → ((v : ℕ) → Only 7 (f v)) → Only 7 (sound.faults f k)
+unfolding sound.faults upTo
+faults-only f zero p = none 7
+faults-only f (suc k) p = either 7 _ _ (faults-only f k p) (p (suc k))
+
+root-only : (e : Entry) → Only 7 (sound.rootFault e)
+unfolding sound.rootFault
+root-only e = unless-only 7 (eqb (e .dist) 0 && (eqb (e .link) 0 && eqb (e .state) 2))
+
+module _ (side : Side) (map : List ℕ) (n m : ℕ) (h : List ℕ) where
+  tight-only : (v d k : ℕ) → Only 7 (sound.tightFault side map n h v d k)
+  unfolding sound.tightFault
+  tight-only v d k =
+      unless-only 7 (eqb (far side map k) v && (eqb (state n h (near side map k)) 2 && eqb d (dist h (near side map k) + cost map k)))
+
+  named-only : (v d k : ℕ) → Only 7 (sound.namedFault side map n m h v d k)
+  unfolding sound.namedFault
+  named-only v d k = cond-both (Only 7) (leb 1 k && leb k m) (tight-only v d k) (this 7)
+
+  at-only : (root v : ℕ) → Only 7 (sound.soundAt side map n m root h v)
+  unfolding sound.soundAt
+  at-only root v =
+      cond-both (Only 7) (eqb v root) (root-only (entry n h v))
+      (cond-both (Only 7) (eqb (state n h v) 2) (named-only v (dist h v) (link n h v)) (none 7))
+
+  sound-only : (root : ℕ) → Only 7 (sound.soundFault side map n m root h)
+  unfolding sound.soundFault
+  sound-only root = faults-only _ n (at-only root)
+
+mark-only : (n stretch optimum : ℕ) (f g marks : List ℕ) (v : ℕ) → Only 7 (sound.markFault n stretch optimum f g marks v)
+unfolding sound.markFault
+mark-only n stretch optimum f g marks v = unless-only 7 (eqb (getD marks (v - 1) 0) (mark n stretch optimum f g v))
+
+pub trails-only : (map : List ℕ) (n m : ℕ) (b : Bench) → Only 7 (trailsFault map n m b)
+unfolding trailsFault ruleFault sound.marksFault
+trails-only map n m b =
+    either 7 _ _ (sound-only Forward map n m (b .forward) (b .start))
+    (either 7 _ _ (sound-only Backward map n m (b .backward) (b .target)) (faults-only _ n (mark-only n _ _ _ _ _)))
+
+-- ---- 8 and 9
+
+pub done-only : (b : Bench) → Only 8 (doneFault b)
+unfolding doneFault
+done-only b = unless-only 8 (done Forward b && done Backward b)
+
+pub known-only : (b : Bench) → Only 9 (unknownFault b)
+unfolding unknownFault
+known-only b = unless-only 9 (known (b .optimum))
+
+-- ---- an answer that is no refusal, or one with a number from low to high
+
+module _ (low high : ℕ) where
+  abbrev pub Numbered : Said → Type 0
+  Numbered s = (number : ℕ) (rest : List ℕ) → s ≡ refused number rest → Between low high number
+
+  pub told-numbered : (vs : List ℕ) → Numbered (told vs)
+  told-numbered vs number rest e = absurd (told-refused e)
+
+  pub refused-numbered : (fault : ℕ) (vs : List ℕ) → Between low high fault → Numbered (refused fault vs)
+  refused-numbered fault vs b number rest e = let q : fault ≡ number = cc in omega (arith, q)
+
+-- ---- the reader: 1 to 5
+
+abbrev Read : Said → Type 0
+Read = Numbered 1 5
+
+abbrev Listed : Fault → Type 0
+Listed f = f .number ≢ 0 → Between 1 5 (f .number)
+
+listed : {k fault : ℕ} → Only k fault → Between 1 5 k → fault ≢ 0 → Between 1 5 fault
+listed only b ne = omega (arith, only ne)
+
+first-listed : (a b : Fault) → Listed a → Listed b → Listed (firstOf a b)
+unfolding firstOf
+first-listed a b p q = cond-both Listed (eqb (a .number) 0) q p
+
+size-listed : (lent : ℕ) (n m : Field) → Listed (sizeFault lent n m)
+unfolding sizeFault
+size-listed lent n m =
+    let two : Between 1 5 2 = omega arith in
+    first-listed _ _ (listed (outside-only 2 _ _ _) two) (first-listed _ _ (listed (outside-only 2 _ _ _) two) (listed (room-only _ _) (omega arith)))
+
+link-listed : (n : ℕ) (u v w : Field) → Listed (linkFault n u v w)
+unfolding linkFault
+link-listed n u v w =
+    let four : Between 1 5 4 = omega arith in
+    first-listed _ _ (listed (outside-only 4 _ _ _) four) (first-listed _ _ (listed (outside-only 4 _ _ _) four) (listed (outside-only 5 _ _ _) (omega arith)))
+
+-- a line goes on, or stops with such a number
+abbrev Goes : Step → Type 0
+Goes (Go st) = Unit {0}
+Goes (Stop fault) = Between 1 5 (fault .number)
+
+step-goes : (fault : Fault) (next : State) → Listed fault → Goes (stepBy fault next)
+unfolding stepBy
+step-goes fault next p = cond-cases Goes (eqb (fault .number) 0) (λ _. tt) (λ e. p (eqb-false _ _ e))
+
+line-goes : (lent : ℕ) (st : State) (l : Line) → Goes (taken lent st l)
+unfolding taken sizeStep linkStep
+line-goes lent st Comment = tt
+line-goes lent st (Size n m) = cond-both Goes (eqb (st .n) 0) (step-goes _ _ (size-listed lent n m)) (omega arith)
+line-goes lent st (Link u v w) = cond-both Goes (ltb (st .k) (st .m)) (step-goes _ _ (link-listed (st .n) u v w)) (omega arith)
+line-goes lent st (Strange p) = omega arith
+line-goes lent st (Wrong p) = omega arith
+
+lines-numbered : (lent : ℕ) (st : State) (at : ℕ) (ls : List (List ℕ)) → Read (readLines lent st at ls)
+unfolding readLines finish
+lines-numbered lent st at [] =
+    let one = refused-numbered 1 5 1 (at ∷ []) (omega arith) in
+    cond-both Read (eqb (st .n) 0) one (cond-both Read (eqb (st .k) (st .m)) (told-numbered 1 5 (st .n ∷ st .m ∷ [])) one)
+lines-numbered lent st at (l ∷ ls) = go (taken lent st (lineOf l)) (line-goes lent st (lineOf l)) (λ next. lines-numbered lent next (at + 1) ls)
+  where
+    go : (x : Step) → Goes x → ((next : State) → Read (readLines lent next (at + 1) ls))
+        → Read (stepThen x (λ next. readLines lent next (at + 1) ls) (λ fault. refused (fault .number) (at ∷ [])))
+    go (Go next) p rest = rest next
+    go (Stop fault) p rest = refused-numbered 1 5 (fault .number) (at ∷ []) p
+
+pub read-numbered : (lent : ℕ) (s : List ℕ) → Read (readText lent s)
+unfolding readText
+read-numbered lent s =
+    cond-both Read (ltb 1048576 (length s)) (refused-numbered 1 5 2 (0 ∷ []) (omega arith)) (lines-numbered lent (stateOf 0 0 0) 1 (linesOf s))

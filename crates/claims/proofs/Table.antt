@@ -1,0 +1,271 @@
+-- The numbers that the calls on a map answer are those of the table, check by check. Assumes nothing.
+use mathlib.Core.Path.{_≡_, refl, sym, _∙_}
+use mathlib.Core.Bool.{true, cond, _&&_}
+use mathlib.Core.Logic.{_≢_, inl, inr}
+use mathlib.Core.List.{List, [], _∷_, _++_}
+use Prim.Native.Nat.{ℕ, zero, suc, _*_, _-_, _≤_}
+use native.Mathlib.Decide.{ℕ-discrete}
+use native.Mathlib.Omega.{arith}
+use borrow.Author.Tests.{eq-eqb, ne-eqb}
+use lib.Dec.{eqb}
+use lib.ListN.{length, getD}
+use Rattle.limits.specs.First.{orElse, firstFrom}
+use Rattle.limits.specs.Limits.{Between, roomFault}
+use Rattle.limits.proofs.Cases.{cond-then, and-both}
+use Rattle.limits.proofs.Laws.{orElse-first, orElse-second, orElse-none, none-orElse, outside-none, none-outside, room-none, none-room}
+use Rattle.map.specs.Map.{tail, head, cost, endsFault, linkFault, countsFault, mapFault}
+use Rattle.map.specs.declared.Side.{Side}
+use Rattle.map.specs.declared.Side.the-variants.{Forward, Backward}
+use Rattle.half.specs.Half.{unknown, ceiling}
+use Rattle.shape.specs.Bench.{half, root, benchWords, parse, WellShaped}
+use Rattle.shape.specs.Rules.{known, done}
+use Rattle.shaped.specs.Shape.{shapeFault}
+use Rattle.shaped.specs.Lent.{lentFault}
+use Rattle.shape.proofs.Rounds.{parse-room}
+use Rattle.shaped.proofs.Lent.{Ready, lent-ready}
+use Rattle.shaped.proofs.Shaped.{fault-shaped, shaped-fault}
+use Rattle.trail.specs.Sound.{SoundHalf, marksSound}
+use Rattle.trail.proofs.Soundness.{fault-sound, sound-fault, fault-marks, marks-fault}
+use Rattle.route.specs.Area.{routeOf}
+use Rattle.area.specs.Finished.{doneFault, unknownFault, ruleFault, trailsFault, finishedFault, areaFault, askedFault, routeFault}
+use Rattle.bench.specs.Calls.{orderFault, openFault, turnFault}
+use Rattle.claims.specs.Table.{Check, unless, Judged, linkChecks, mapChecks, openChecks, benchChecks, turnChecks, finishedChecks, areaChecks, routeChecks, Table}
+use Rattle.claims.proofs.Numbers.{Only, outside-only, room-only, where-only, shape-only, done-only, known-only, trails-only}
+
+-- ---- laws of what is judged
+
+-- the table leaves one number
+pub judged-same : (cs : List Check) (a b : ℕ) → Judged cs a → Judged cs b → a ≡ b
+judged-same [] a b p q = p ∙ sym q
+judged-same (unless given asked ∷ rest) a b (inl (_, p)) (inl (_, q)) = judged-same rest a b p q
+judged-same (unless given asked ∷ rest) a b (inl (y, _)) (inr (n, _)) = absurd (n y)
+judged-same (unless given asked ∷ rest) a b (inr (n, _)) (inl (y, _)) = absurd (n y)
+judged-same (unless given asked ∷ rest) a b (inr (_, p)) (inr (_, q)) = p ∙ sym q
+
+-- every number lies in a range
+abbrev pub Numbers : ℕ → ℕ → List Check → Type 0
+Numbers low high [] = Unit {0}
+Numbers low high (unless given asked ∷ rest) = Between low high given × Numbers low high rest
+
+pub judged-in : (low high : ℕ) (cs : List Check) (number : ℕ) → Numbers low high cs → Judged cs number → number ≢ 0 → Between low high number
+judged-in low high [] number b p ne = absurd (ne p)
+judged-in low high (unless given asked ∷ rest) number b (inl (_, p)) ne = judged-in low high rest number (b .1) p ne
+judged-in low high (unless given asked ∷ rest) number b (inr (_, p)) ne = let z = b .0 in omega (arith, p)
+
+pub numbers-append : (low high : ℕ) (cs ds : List Check) → Numbers low high cs → Numbers low high ds → Numbers low high (cs ++ ds)
+numbers-append low high [] ds p q = q
+numbers-append low high (unless given asked ∷ rest) ds p q = (p .0, numbers-append low high rest ds (p .1) q)
+
+-- checks, and the number that they give
+record Part : Type 1 where
+  checks : List Check
+  number : ℕ
+  numbers : Numbers 1 10 checks
+  judged : Judged checks number
+
+-- the checks of p, and where all are met others
+next : (p : Part) (ds : List Check) (b : ℕ) → (p .number ≡ 0 → Judged ds b) → Judged (p .checks ++ ds) (orElse (p .number) b)
+next p ds b q = go (p .checks) (p .numbers) (p .judged)
+  where
+    go : (cs : List Check) → Numbers 1 10 cs → Judged cs (p .number) → Judged (cs ++ ds) (orElse (p .number) b)
+    go [] some z = rw (orElse-second (p .number) b z) (q z)
+    go (unless given asked ∷ rest) some (inl (y, j)) = inl (y, go rest (some .1) j)
+    go (unless given asked ∷ rest) some (inr (n, e)) = let z = some .0 in inr (n, orElse-first (p .number) b (λ k. omega (arith, e)) ∙ e)
+
+-- the checks of p, then those of q
+both : Part → Part → Part
+both p q =
+    record {
+      checks = p .checks ++ q .checks;
+      number = orElse (p .number) (q .number);
+      numbers = numbers-append 1 10 (p .checks) (q .checks) (p .numbers) (q .numbers);
+      judged = next p (q .checks) (q .number) (λ _. q .judged);
+    }
+
+-- ---- single checks
+
+one : {asked : Type 0} (given fault : ℕ) → Between 1 10 given → (fault ≡ 0 → asked) → (asked → fault ≡ 0) → Only given fault → Part
+one {asked} given fault b p q only =
+    record {
+      checks = unless given asked ∷ [];
+      number = fault;
+      numbers = (b, tt);
+      judged = go (ℕ-discrete fault 0);
+    }
+  where
+    go : Dec (fault ≡ 0) → Judged (unless given asked ∷ []) fault
+    go (yes z) = inl (p z, z)
+    go (no ne) = inr (λ y. ne (q y), only ne)
+
+in-range : (low high given x : ℕ) → Between 1 10 given → Part
+in-range low high given x b =
+    one given _ b (outside-none low high given x (λ e. omega arith)) (none-outside low high given x) (outside-only given low high x)
+
+up-to : (high given x : ℕ) → Between 1 10 given → Part
+up-to high given x b =
+    one given _ b (λ z. outside-none 0 high given x (λ e. omega arith) z .most) (λ (le : x ≤ high). none-outside 0 high given x (omega arith)) (outside-only given 0 high x)
+
+has-room : (needed lent : ℕ) → Part
+has-room needed lent = one 3 _ (omega arith) (room-none needed lent) (none-room needed lent) (room-only needed lent)
+
+-- ---- the map
+
+module _ (map : List ℕ) (n m : ℕ) where
+  link-numbers : {low high : ℕ} → low ≤ 4 → 5 ≤ high → (k more : ℕ) → Numbers low high (linkChecks map n m k more)
+  unfolding linkChecks
+  link-numbers l h k zero = tt
+  link-numbers l h k (suc more) = (omega arith, (omega arith, (omega arith, link-numbers l h (suc k) more)))
+
+  pub map-numbers : {low high : ℕ} → low ≤ 2 → 5 ≤ high → Numbers low high (mapChecks map n m)
+  unfolding mapChecks
+  map-numbers l h = (omega arith, (omega arith, (omega arith, link-numbers (omega arith) h 1 m)))
+
+  link-part : ℕ → Part
+  link-part k =
+      both (both (in-range 1 n 4 (tail map k) (omega arith)) (in-range 1 n 4 (head map k) (omega arith))) (in-range 1 65535 5 (cost map k) (omega arith))
+
+  links-judged : (k more : ℕ) → Judged (linkChecks map n m k more) (firstFrom (linkFault n map) k more)
+  unfolding linkChecks firstFrom linkFault endsFault link-part in-range one both
+  links-judged k zero = refl
+  links-judged k (suc more) = next (link-part k) (linkChecks map n m (suc k) more) (firstFrom (linkFault n map) (suc k) more) (λ _. links-judged (suc k) more)
+
+  links-part : Part
+  links-part =
+      record { checks = linkChecks map n m 1 m; number = firstFrom (linkFault n map) 1 m; numbers = link-numbers (omega arith) (omega arith) 1 m; judged = links-judged 1 m }
+
+  map-judged : Judged (mapChecks map n m) (mapFault n m map)
+  unfolding mapChecks mapFault countsFault in-range up-to has-room one both links-part
+  map-judged = both (both (in-range 1 4096 2 n (omega arith)) (up-to 16384 2 m (omega arith))) (both (has-room (3 * m) (length map)) links-part) .judged
+
+  map-part : Part
+  map-part = record { checks = mapChecks map n m; number = mapFault n m map; numbers = map-numbers (omega arith) (omega arith); judged = map-judged }
+
+  -- ---- opening
+
+  open-judged : (start target stretch : ℕ) (x : List ℕ) → Judged (openChecks map n m start target stretch x) (openFault map n m start target stretch x)
+  unfolding openFault orderFault map-part in-range has-room one both
+  open-judged start target stretch x =
+      both map-part
+      (both (both (in-range 1 n 4 start (omega arith)) (both (in-range 1 n 4 target (omega arith)) (in-range 1000 4000 5 stretch (omega arith))))
+      (has-room (benchWords n) (length x)))
+      .judged
+
+  -- ---- a turn
+
+  module _ (x : List ℕ) where
+    shaped : benchWords n ≤ length x → Part
+    shaped room = one 6 (shapeFault n m (parse n x)) (omega arith) (fault-shaped (parse-room n x room)) shaped-fault (shape-only n m (parse n x))
+
+    bench-judged : Judged (benchChecks map n m x) (orElse (roomFault (benchWords n) (length x)) (shapeFault n m (parse n x)))
+    unfolding has-room shaped one
+    bench-judged =
+        next (has-room (benchWords n) (length x)) (unless 6 (WellShaped n m (parse n x)) ∷ []) (shapeFault n m (parse n x))
+        (λ z. shaped (room-none _ _ z) .judged)
+
+    bench-part : Part
+    bench-part =
+        record {
+          checks = benchChecks map n m x;
+          number = orElse (roomFault (benchWords n) (length x)) (shapeFault n m (parse n x));
+          numbers = (omega arith, (omega arith, tt));
+          judged = bench-judged;
+        }
+
+    turn-judged : Judged (turnChecks map n m x) (turnFault map n m x)
+    unfolding turnFault lentFault map-part bench-part both
+    turn-judged = rw (orElse-second 0 _ refl) (both map-part bench-part .judged)
+
+    -- ---- a finished bench
+
+    module _ (ready : Ready map n m x) where
+      done-both : doneFault (parse n x) ≡ 0 → (s : Side) → done s (parse n x) ≡ true
+      unfolding doneFault
+      done-both z s = go s (and-both _ _ (cond-then (done Forward (parse n x) && done Backward (parse n x)) z (λ e. omega arith) .0))
+        where
+          go : (s : Side) → (done Forward (parse n x) ≡ true) × (done Backward (parse n x) ≡ true) → done s (parse n x) ≡ true
+          go Forward p = p .0
+          go Backward p = p .1
+
+      both-done : ((s : Side) → done s (parse n x) ≡ true) → doneFault (parse n x) ≡ 0
+      unfolding doneFault
+      both-done p = rw (p Forward, p Backward)
+
+      known-some : unknownFault (parse n x) ≡ 0 → parse n x .optimum ≢ unknown
+      unfolding unknownFault known
+      known-some z e = let w : _≡_ {A = ℕ} 9 0 = (simp (eq-eqb _ _ e) at z) in omega arith
+
+      some-known : parse n x .optimum ≢ unknown → unknownFault (parse n x) ≡ 0
+      unfolding unknownFault known
+      some-known ne = simp (ne-eqb _ _ ne)
+
+      abbrev Trails : Type 0
+      Trails = ((s : Side) → SoundHalf s map n m (root s (parse n x)) (half s (parse n x))) × marksSound (parse n x)
+
+      trails-sound : trailsFault map n m (parse n x) ≡ 0 → Trails
+      unfolding trailsFault ruleFault
+      trails-sound z =
+          let b = parse n x in
+          let w = ready .shaped in
+          let p = orElse-none _ _ z in
+          let q = orElse-none _ _ (p .1) in (
+            go (fault-sound Forward map n m (b .start) (b .forward) (w .start-in) (p .0)) (fault-sound Backward map n m (b .target) (b .backward) (w .target-in) (q .0)),
+            rw (w .same-n) (fault-marks n (b .stretch) (b .optimum) (b .forward) (b .backward) (b .marks) (w .marks-room) (q .1)),
+          )
+        where
+          go : SoundHalf Forward map n m (parse n x .start) (parse n x .forward) → SoundHalf Backward map n m (parse n x .target) (parse n x .backward)
+              → (s : Side) → SoundHalf s map n m (root s (parse n x)) (half s (parse n x))
+          go p q Forward = p
+          go p q Backward = q
+
+      sound-trails : Trails → trailsFault map n m (parse n x) ≡ 0
+      unfolding trailsFault ruleFault
+      sound-trails (p, q) =
+          let b = parse n x in
+          none-orElse _ _ (sound-fault Forward map n m (b .start) (b .forward) (p Forward))
+          (none-orElse _ _ (sound-fault Backward map n m (b .target) (b .backward) (p Backward))
+          (marks-fault n (b .stretch) (b .optimum) (b .forward) (b .backward) (b .marks) (rw (ready .shaped .same-n) at q)))
+
+      finished-part : Part
+      finished-part =
+          both (one 8 (doneFault (parse n x)) (omega arith) done-both both-done (done-only (parse n x)))
+          (both (one 9 (unknownFault (parse n x)) (omega arith) known-some some-known (known-only (parse n x)))
+          (one 7 (trailsFault map n m (parse n x)) (omega arith) trails-sound sound-trails (trails-only map n m (parse n x))))
+
+    -- ---- the area
+
+    area-judged : (locality room : ℕ) → Judged (areaChecks map n m x locality room) (areaFault map n m x locality room)
+    unfolding areaFault lentFault finishedFault map-part bench-part up-to has-room one both finished-part
+    area-judged locality room =
+        next (both map-part (both (up-to ceiling 5 locality (omega arith)) bench-part))
+        (unless 3 (n ≤ room) ∷ finishedChecks map n m (parse n x))
+        (orElse (roomFault n room) (finishedFault map n m (parse n x)))
+        (λ z. both (has-room n room) (finished-part (lent-ready map n m _ x z .1)) .judged)
+
+    -- ---- the route
+
+    abbrev marked : ℕ → ℕ
+    marked crossing = getD (parse n x .marks) (crossing - 1) 0
+
+    abbrev mark-number : ℕ → ℕ
+    mark-number crossing = cond (eqb (marked crossing) 0) 10 0
+
+    asked-part : ℕ → ℕ → Part
+    asked-part crossing room =
+        both
+        (one 10 (mark-number crossing) (omega arith)
+        (λ z e. let w : _≡_ {A = ℕ} 10 0 = (simp (eq-eqb _ _ e) at z) in omega arith)
+        (λ (ne : marked crossing ≢ 0). simp (ne-eqb _ _ ne))
+        (where-only 10 (eqb (marked crossing) 0)))
+        (has-room (length (routeOf map (parse n x) crossing)) room)
+
+    route-judged : (crossing room : ℕ) → Judged (routeChecks map n m x crossing room) (routeFault map n m x crossing room)
+    unfolding routeFault lentFault finishedFault askedFault map-part bench-part in-range has-room one both finished-part asked-part
+    route-judged crossing room =
+        next (both map-part (both (in-range 1 n 4 crossing (omega arith)) bench-part))
+        (finishedChecks map n m (parse n x)
+        ++ (unless 10 (getD (parse n x .marks) (crossing - 1) 0 ≢ 0) ∷ unless 3 (length (routeOf map (parse n x) crossing) ≤ room) ∷ []))
+        (orElse (finishedFault map n m (parse n x)) (askedFault map (parse n x) crossing room))
+        (λ z. both (finished-part (lent-ready map n m _ x z .1)) (asked-part crossing room) .judged)
+
+  pub table : Table map n m
+  table = record { fault = map-judged; opening = open-judged; turn = turn-judged; area = area-judged; route = route-judged }
