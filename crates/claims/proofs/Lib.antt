@@ -9,8 +9,6 @@ pub mod Computed
 pub mod Five
 pub mod Orders
 pub mod Sharp
-pub mod Numbers
-pub mod Table
 pub mod Promises
 pub mod Contracts
 pub mod Worthless

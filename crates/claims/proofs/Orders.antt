@@ -58,6 +58,11 @@ six-valid = fault-valid 5 6 five refl
 pub lost-met : Order five 5 6 5 1 1000
 lost-met = record { valid = six-valid; start-in = omega arith; target-in = omega arith; stretch-in = omega arith }
 
+pub lost-finished : Finished five 5 6 5 1 1000 (left five 5 6 5 1 1000 [] (Forward ∷ Backward ∷ []))
+unfolding computed
+lost-finished Forward = refl
+lost-finished Backward = refl
+
 pub no-walk-met : NoWalk five 5 6 5 1 1000
 unfolding computed
-no-walk-met = demand-2 lost-met [] (Forward ∷ Backward ∷ []) .no-route Forward refl .0 refl
+no-walk-met = demand-2 lost-met [] (Forward ∷ Backward ∷ []) .no-route Forward (lost-finished Forward) .0 refl

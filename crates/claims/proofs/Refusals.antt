@@ -11,7 +11,7 @@ use lib.ListN.{length, getD}
 use borrow.Author.Tests.{eq-eqb, ne-eqb, eqb-true, eqb-false, not-false}
 use Rattle.limits.specs.First.{orElse}
 use Rattle.limits.specs.Limits.{Between, crossingFault, localityFault, roomFault}
-use Rattle.limits.proofs.Cases.{and-both, cond-both, cond-then, cond-else}
+use Rattle.limits.proofs.Cases.{cond-both, cond-else}
 use Rattle.limits.proofs.Laws.{orElse-first, orElse-second, orElse-none, orElse-zero, none-orElse, orElse-both, outside-both, room-both, outside-none, none-outside, none-room}
 use Rattle.map.specs.declared.Side.{Side}
 use Rattle.map.specs.declared.Side.the-variants.{Forward, Backward}
@@ -24,6 +24,7 @@ use Rattle.trail.specs.Sound.{SoundHalf}
 use Rattle.trail.proofs.Soundness.{sound-fault, marks-fault}
 use Rattle.route.specs.Area.{routeOf}
 use Rattle.area.specs.Finished.{doneFault, unknownFault, ruleFault, trailsFault, finishedFault, areaFault, askedFault, routeFault}
+use Rattle.table.proofs.Numbers.{fault-done, done-fault}
 use Rattle.claims.specs.Mixture.{Order, bySide, benchAt}
 use Rattle.claims.specs.Demands.{InArea, Route, Finished, NoWalk}
 use Rattle.nearest.proofs.Theorems.{least-ceiling}
@@ -43,17 +44,9 @@ module _ (P : ℕ → Type 0) where
   unfolding askedFault
   asked-both map b v room p q r = orElse-both P _ _ (cond-both P (eqb (getD (b .marks) (v - 1) 0) 0) p r) (room-both P (length (routeOf map b v)) room q r)
 
--- ---- both halves done, and a route known
+-- ---- a route known
 
 module _ (b : Bench) where
-  fault-done : doneFault b ≡ 0 → (s : Side) → done s b ≡ true
-  unfolding doneFault
-  fault-done z = let p = and-both _ _ (cond-then (done Forward b && done Backward b) z (λ e. omega arith) .0) in λ s. elim s [ Forward ↦ p .0 | Backward ↦ p .1 ]
-
-  done-fault : ((s : Side) → done s b ≡ true) → doneFault b ≡ 0
-  unfolding doneFault
-  done-fault d = rw (d Forward, d Backward)
-
   known-fault : b .optimum ≤ ceiling → unknownFault b ≡ 0
   unfolding unknownFault
   known-fault le = rw (known-low (b .optimum) le)

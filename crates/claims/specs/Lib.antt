@@ -2,7 +2,6 @@ pub mod Calls
 pub mod Mixture
 pub mod Demands
 pub mod Five
-pub mod Table
 pub mod Promises
 pub mod Worthless
 pub mod Trails

@@ -7,7 +7,7 @@ use native.Mathlib.Omega.{arith}
 use borrow.Author.Tests.{eqb-true}
 use lib.Dec.{eqb}
 use lib.ListN.{length}
-use Rattle.limits.specs.Said.{Said, told}
+use Rattle.limits.specs.Said.{Said, told, refused}
 use Rattle.limits.proofs.Cases.{cond-cases}
 use Rattle.map.specs.declared.Side.{Side}
 use Rattle.half.specs.Half.{ceiling, dist, Shaped, unseen, seen}
@@ -22,8 +22,9 @@ use Rattle.bench.specs.Calls.{judged, openSaid, turnFault, turnSaid}
 use Rattle.bench.specs.Areas.{areaSaid}
 use Rattle.bench.specs.Routes.{routeSaid}
 use Rattle.bench.proofs.Routes.{fill-short}
+use Rattle.table.proofs.Numbers.{Numbered}
+use Rattle.table.proofs.Ranges.{open-numbered, turn-numbered, area-numbered, route-numbered}
 use Rattle.sankayop.specs.Packed.{number, first, second, inOne, packed, Fits, Packs}
-use Rattle.sankayop.proofs.Numbers.{Few, few-open, few-turn, few-area, few-route}
 
 -- ---- nothing is lost
 
@@ -42,10 +43,13 @@ module _ {A : Type 0} (f : A → Said) {a b : A} (e : a ≡ b) where
 
 -- ---- the calls on a map and a bench
 
-judged-packs : (fault : ℕ) (answer : Said) → Few fault → (fault ≡ 0 → Packs answer) → Packs (judged fault answer)
+judged-packs : (high fault : ℕ) (answer : Said) → high ≤ 10 → Numbered 2 high (judged fault answer) → (fault ≡ 0 → Packs answer) → Packs (judged fault answer)
 unfolding judged
-judged-packs fault answer few fits =
-    cond-cases Packs (eqb fault 0) (λ t. fits (eqb-true _ _ t)) (λ _. record { few = few; first-in = omega arith; second-in = omega arith })
+judged-packs high fault answer le numbers fits = go (eqb fault 0) refl numbers
+  where
+    go : (t : Bool) → eqb fault 0 ≡ t → Numbered 2 high (cond t answer (refused fault [])) → Packs (cond t answer (refused fault []))
+    go true e p = fits (eqb-true _ _ e)
+    go false e p = record { few = omega (arith, p fault [] refl .most); first-in = omega arith; second-in = omega arith }
 
 nothing-packs : Packs (told [])
 nothing-packs = record { few = omega arith; first-in = omega arith; second-in = omega arith }
@@ -58,16 +62,16 @@ open-near (seen s d k) o = d
 module _ (map : List ℕ) (n m : ℕ) (x : List ℕ) where
   pub open-packs : (start target stretch : ℕ) → Packs (openSaid map n m start target stretch x)
   unfolding openSaid
-  open-packs start target stretch = judged-packs _ (told []) (few-open map n m x start target stretch) (λ _. nothing-packs)
+  open-packs start target stretch = judged-packs 5 _ (told []) (omega arith) (open-numbered map n m x start target stretch) (λ _. nothing-packs)
 
   pub area-packs : (locality : ℕ) (mask : List ℕ) → Packs (areaSaid map n m x locality mask)
   unfolding areaSaid
-  area-packs locality mask = judged-packs _ (told []) (few-area map n m x locality (length mask)) (λ _. nothing-packs)
+  area-packs locality mask = judged-packs 9 _ (told []) (omega arith) (area-numbered map n m x locality mask) (λ _. nothing-packs)
 
   pub route-packs : (crossing : ℕ) (buffer : List ℕ) → Packs (routeSaid map n m x crossing buffer)
   unfolding routeSaid
   route-packs crossing buffer =
-      judged-packs _ _ (few-route map n m x crossing (length buffer))
+      judged-packs 10 _ _ (omega arith) (route-numbered map n m x crossing buffer)
       (λ z. record { few = omega arith; first-in = omega (arith, fill-short map n m x crossing buffer refl z); second-in = omega arith })
 
   turn-lent : turnFault map n m x ≡ 0 → lentFault map n m 0 x ≡ 0
@@ -92,7 +96,7 @@ module _ (map : List ℕ) (n m : ℕ) (x : List ℕ) where
 
   pub turn-packs : (s : Side) → Packs (turnSaid s map n m x)
   unfolding turnSaid
-  turn-packs s = judged-packs _ _ (few-turn map n m x) (told-packs s)
+  turn-packs s = judged-packs 6 _ _ (omega arith) (turn-numbered map n m x s) (told-packs s)
 
 -- a turn that settles is not taken for one that is done, whose values are 0
 pub settled-some : (s : Side) (b : Bench) → first (turnTold s b) ≡ 0 → done s b ≡ true

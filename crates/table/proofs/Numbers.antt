@@ -1,6 +1,6 @@
 -- With which number a check refuses: each of its parts with the same one; and the reader with 1 to 5. Assumes nothing.
 use mathlib.Core.Path.{_≡_, refl}
-use mathlib.Core.Bool.{Bool, cond, _&&_}
+use mathlib.Core.Bool.{Bool, true, cond, _&&_}
 use mathlib.Core.Logic.{_≢_}
 use mathlib.Core.List.{List, [], _∷_}
 use Prim.Native.Nat.{ℕ, zero, suc, _+_, _-_}
@@ -11,7 +11,8 @@ use lib.ListN.{length, getD}
 use Rattle.limits.specs.First.{orElse}
 use Rattle.limits.specs.Limits.{Between, numberOutside, roomFault}
 use Rattle.limits.specs.Said.{Said, told, refused}
-use Rattle.limits.proofs.Cases.{cond-both, cond-cases}
+use Rattle.limits.proofs.Cases.{cond-both, cond-cases, cond-then, and-both}
+use Rattle.limits.proofs.Laws.{orElse-both, outside-both, room-both}
 use Rattle.limits.proofs.Said.{told-refused}
 use Rattle.line.specs.Line.{lineOf}
 use Rattle.line.specs.Lines.{linesOf}
@@ -37,8 +38,9 @@ use Rattle.shaped.specs.Shape as shape
 use Rattle.trail.specs.Sound as sound
 use Rattle.area.specs.Finished.{doneFault, unknownFault, ruleFault, trailsFault}
 
+-- ---- no refusal, or one with a given number
+
 module _ (number : ℕ) where
-  -- no refusal, or one with this number
   abbrev pub Only : ℕ → Type 0
   Only fault = fault ≢ 0 → fault ≡ number
 
@@ -49,8 +51,7 @@ module _ (number : ℕ) where
   this _ = refl
 
   either : (a b : ℕ) → Only a → Only b → Only (orElse a b)
-  unfolding orElse
-  either a b p q = cond-both Only (eqb a 0) q p
+  either = orElse-both Only
 
   unless-only : (t : Bool) → Only (cond t 0 number)
   unless-only t = cond-both Only t none this
@@ -59,12 +60,10 @@ module _ (number : ℕ) where
   where-only t = cond-both Only t this none
 
   pub outside-only : (low high x : ℕ) → Only (numberOutside low high number x)
-  unfolding numberOutside
-  outside-only low high x = cond-both Only (ltb x low) this (where-only (ltb high x))
+  outside-only low high x = outside-both Only low high number x this none
 
 pub room-only : (needed lent : ℕ) → Only 3 (roomFault needed lent)
-unfolding roomFault
-room-only needed lent = where-only 3 (ltb lent needed)
+room-only needed lent = room-both (Only 3) needed lent (this 3) (none 3)
 
 -- ---- 6: not well shaped
 
@@ -136,13 +135,22 @@ trails-only map n m b =
 
 -- ---- 8 and 9
 
-pub done-only : (b : Bench) → Only 8 (doneFault b)
-unfolding doneFault
-done-only b = unless-only 8 (done Forward b && done Backward b)
+module _ (b : Bench) where
+  pub done-only : Only 8 (doneFault b)
+  unfolding doneFault
+  done-only = unless-only 8 (done Forward b && done Backward b)
 
-pub known-only : (b : Bench) → Only 9 (unknownFault b)
-unfolding unknownFault
-known-only b = unless-only 9 (known (b .optimum))
+  pub fault-done : doneFault b ≡ 0 → (s : Side) → done s b ≡ true
+  unfolding doneFault
+  fault-done z = let p = and-both _ _ (cond-then (done Forward b && done Backward b) z (λ e. omega arith) .0) in λ s. elim s [ Forward ↦ p .0 | Backward ↦ p .1 ]
+
+  pub done-fault : ((s : Side) → done s b ≡ true) → doneFault b ≡ 0
+  unfolding doneFault
+  done-fault d = rw (d Forward, d Backward)
+
+  pub known-only : Only 9 (unknownFault b)
+  unfolding unknownFault
+  known-only = unless-only 9 (known (b .optimum))
 
 -- ---- an answer that is no refusal, or one with a number from low to high
 

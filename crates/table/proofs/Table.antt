@@ -1,6 +1,6 @@
 -- The numbers that the calls on a map answer are those of the table, check by check. Assumes nothing.
 use mathlib.Core.Path.{_≡_, refl, sym, _∙_}
-use mathlib.Core.Bool.{true, cond, _&&_}
+use mathlib.Core.Bool.{cond}
 use mathlib.Core.Logic.{_≢_, inl, inr}
 use mathlib.Core.List.{List, [], _∷_, _++_}
 use Prim.Native.Nat.{ℕ, zero, suc, _*_, _-_, _≤_}
@@ -11,14 +11,13 @@ use lib.Dec.{eqb}
 use lib.ListN.{length, getD}
 use Rattle.limits.specs.First.{orElse, firstFrom}
 use Rattle.limits.specs.Limits.{Between, roomFault}
-use Rattle.limits.proofs.Cases.{cond-then, and-both}
 use Rattle.limits.proofs.Laws.{orElse-first, orElse-second, orElse-none, none-orElse, outside-none, none-outside, room-none, none-room}
 use Rattle.map.specs.Map.{tail, head, cost, endsFault, linkFault, countsFault, mapFault}
 use Rattle.map.specs.declared.Side.{Side}
 use Rattle.map.specs.declared.Side.the-variants.{Forward, Backward}
 use Rattle.half.specs.Half.{unknown, ceiling}
 use Rattle.shape.specs.Bench.{half, root, benchWords, parse, WellShaped}
-use Rattle.shape.specs.Rules.{known, done}
+use Rattle.shape.specs.Rules.{known}
 use Rattle.shaped.specs.Shape.{shapeFault}
 use Rattle.shaped.specs.Lent.{lentFault}
 use Rattle.shape.proofs.Rounds.{parse-room}
@@ -29,8 +28,8 @@ use Rattle.trail.proofs.Soundness.{fault-sound, sound-fault, fault-marks, marks
 use Rattle.route.specs.Area.{routeOf}
 use Rattle.area.specs.Finished.{doneFault, unknownFault, ruleFault, trailsFault, finishedFault, areaFault, askedFault, routeFault}
 use Rattle.bench.specs.Calls.{orderFault, openFault, turnFault}
-use Rattle.claims.specs.Table.{Check, unless, Judged, linkChecks, mapChecks, openChecks, benchChecks, turnChecks, finishedChecks, areaChecks, routeChecks, Table}
-use Rattle.claims.proofs.Numbers.{Only, outside-only, room-only, where-only, shape-only, done-only, known-only, trails-only}
+use Rattle.table.specs.Table.{Check, unless, Judged, linkChecks, mapChecks, openChecks, benchChecks, turnChecks, finishedChecks, areaChecks, routeChecks, Table}
+use Rattle.table.proofs.Numbers.{Only, outside-only, room-only, where-only, shape-only, done-only, fault-done, done-fault, known-only, trails-only}
 
 -- ---- laws of what is judged
 
@@ -178,18 +177,6 @@ module _ (map : List ℕ) (n m : ℕ) where
     -- ---- a finished bench
 
     module _ (ready : Ready map n m x) where
-      done-both : doneFault (parse n x) ≡ 0 → (s : Side) → done s (parse n x) ≡ true
-      unfolding doneFault
-      done-both z s = go s (and-both _ _ (cond-then (done Forward (parse n x) && done Backward (parse n x)) z (λ e. omega arith) .0))
-        where
-          go : (s : Side) → (done Forward (parse n x) ≡ true) × (done Backward (parse n x) ≡ true) → done s (parse n x) ≡ true
-          go Forward p = p .0
-          go Backward p = p .1
-
-      both-done : ((s : Side) → done s (parse n x) ≡ true) → doneFault (parse n x) ≡ 0
-      unfolding doneFault
-      both-done p = rw (p Forward, p Backward)
-
       known-some : unknownFault (parse n x) ≡ 0 → parse n x .optimum ≢ unknown
       unfolding unknownFault known
       known-some z e = let w : _≡_ {A = ℕ} 9 0 = (simp (eq-eqb _ _ e) at z) in omega arith
@@ -227,7 +214,7 @@ module _ (map : List ℕ) (n m : ℕ) where
 
       finished-part : Part
       finished-part =
-          both (one 8 (doneFault (parse n x)) (omega arith) done-both both-done (done-only (parse n x)))
+          both (one 8 (doneFault (parse n x)) (omega arith) (fault-done (parse n x)) (done-fault (parse n x)) (done-only (parse n x)))
           (both (one 9 (unknownFault (parse n x)) (omega arith) known-some some-known (known-only (parse n x)))
           (one 7 (trailsFault map n m (parse n x)) (omega arith) trails-sound sound-trails (trails-only map n m (parse n x))))
 
