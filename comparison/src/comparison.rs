@@ -1,5 +1,6 @@
-//! One call of the library held against the reference: on two copies of the same memory with guard words
-//! on both sides of every lent slice, the answers and every word must be the same.
+//! One call of the library held against the reference: on the same memory, the answers and every lent word
+//! must be the same. Each wrong variant of the reference is held against it too, until some input tells them
+//! apart.
 
 use crate::inputs::{Call, Input};
 use crate::paper::*;
@@ -8,7 +9,7 @@ use std::fmt::{self, Debug, Display, Formatter};
 use std::time::{Duration, Instant};
 
 /// The numbers of refusal that document 01 gives to each call.
-pub const NUMBERS: [(Call, &[u32]); 6] = [
+const NUMBERS: [(Call, &[u32]); 6] = [
     (Call::Read, &[1, 2, 3, 4, 5]),
     (Call::Open, &[2, 3, 4, 5]),
     (Call::Turn(Side::Forward), &[2, 3, 4, 5, 6]),
@@ -17,63 +18,32 @@ pub const NUMBERS: [(Call, &[u32]); 6] = [
     (Call::Route, &[2, 3, 4, 5, 6, 7, 8, 9, 10]),
 ];
 
-/// Words before and after each lent slice.
-const GUARD: usize = 8;
-const GUARD_WORD: u32 = 0xA5C3_96F0;
-const GUARD_BYTE: u8 = 0xA5;
-
-/// A copy of a slice between guards.
-#[derive(PartialEq)]
-struct Guarded<T>(Vec<T>);
-
-impl<T: Copy + PartialEq + Debug> Guarded<T> {
-    fn new(slice: &[T], guard: T) -> Guarded<T> {
-        Guarded([&[guard; GUARD], slice, &[guard; GUARD]].concat())
-    }
-
-    fn lent(&self) -> &[T] {
-        &self.0[GUARD..self.0.len() - GUARD]
-    }
-
-    fn lent_mut(&mut self) -> &mut [T] {
-        let end = self.0.len() - GUARD;
-        &mut self.0[GUARD..end]
-    }
-
-    /// Where this copy first differs from the other, in words.
-    fn difference(&self, name: &str, due: &Guarded<T>) -> Option<String> {
-        let place = first_difference(&self.0, &due.0)?;
-        let word = place as isize - GUARD as isize;
-        let (is, due) = (self.0[place], due.0[place]);
-        Some(format!("{name}[{word}] is {is:?}, not {due:?}"))
-    }
-}
-
-fn first_difference<T: PartialEq>(is: &[T], due: &[T]) -> Option<usize> {
-    is.iter().zip(due).position(|(is, due)| is != due)
-}
-
 /// The answer of a call and all it was lent, afterward.
 #[derive(PartialEq)]
 pub struct Outcome {
     pub answer: u64,
-    text: Guarded<u8>,
-    map: Guarded<u32>,
-    bench: Guarded<u32>,
-    mask: Guarded<u8>,
-    route: Guarded<u32>,
+    pub text: Vec<u8>,
+    pub map: Vec<u32>,
+    pub bench: Vec<u32>,
+    pub mask: Vec<u8>,
+    pub route: Vec<u32>,
 }
 
 impl Outcome {
-    fn of(calls: &Calls, input: &Input) -> Outcome {
-        let mut after = Outcome {
+    /// All that is lent, before the call.
+    pub fn before(input: &Input) -> Outcome {
+        Outcome {
             answer: 0,
-            text: Guarded::new(&input.text, GUARD_BYTE),
-            map: Guarded::new(&input.map, GUARD_WORD),
-            bench: Guarded::new(&input.bench, GUARD_WORD),
-            mask: Guarded::new(&input.mask, GUARD_BYTE),
-            route: Guarded::new(&input.route, GUARD_WORD),
-        };
+            text: input.text.clone(),
+            map: input.map.clone(),
+            bench: input.bench.clone(),
+            mask: input.mask.clone(),
+            route: input.route.clone(),
+        }
+    }
+
+    fn of(calls: &Calls, input: &Input) -> Outcome {
+        let mut after = Outcome::before(input);
         after.answer = after.call(calls, input);
         after
     }
@@ -81,29 +51,14 @@ impl Outcome {
     fn call(&mut self, calls: &Calls, input: &Input) -> u64 {
         let &Input { n, m, order, .. } = input;
         let (start, target, stretch) = (order.start, order.target, order.stretch);
-        let (map, bench) = (self.map.lent(), self.bench.lent());
+        let (map, bench) = (&mut self.map, &mut self.bench);
         match input.call {
-            Call::Read => (calls.read)(self.text.lent(), self.map.lent_mut()),
-            Call::Open => {
-                let bench = self.bench.lent_mut();
-                (calls.open)(map, n, m, start, target, stretch, bench)
-            }
-            Call::Turn(side) => (calls.turn)(side, map, n, m, self.bench.lent_mut()),
-            Call::Area => (calls.area)(map, n, m, bench, input.locality, self.mask.lent_mut()),
-            Call::Route => (calls.route)(map, n, m, bench, input.crossing, self.route.lent_mut()),
+            Call::Read => (calls.read)(&self.text, map),
+            Call::Open => (calls.open)(map, n, m, start, target, stretch, bench),
+            Call::Turn(side) => (calls.turn)(side, map, n, m, bench),
+            Call::Area => (calls.area)(map, n, m, bench, input.locality, &mut self.mask),
+            Call::Route => (calls.route)(map, n, m, bench, input.crossing, &mut self.route),
         }
-    }
-
-    pub fn bench(&self) -> &[u32] {
-        self.bench.lent()
-    }
-
-    pub fn mask(&self) -> &[u8] {
-        self.mask.lent()
-    }
-
-    pub fn route(&self) -> &[u32] {
-        self.route.lent()
     }
 
     /// How this differs from what is due, in words.
@@ -114,15 +69,29 @@ impl Outcome {
         });
         let parts = [
             answer,
-            self.text.difference("text", &due.text),
-            self.map.difference("map", &due.map),
-            self.bench.difference("bench", &due.bench),
-            self.mask.difference("mask", &due.mask),
-            self.route.difference("route", &due.route),
+            difference("text", &self.text, &due.text),
+            difference("map", &self.map, &due.map),
+            difference("bench", &self.bench, &due.bench),
+            difference("mask", &self.mask, &due.mask),
+            difference("route", &self.route, &due.route),
         ];
         parts.into_iter().flatten().collect::<Vec<_>>().join("; ")
     }
 }
+
+fn first_difference<T: PartialEq>(is: &[T], due: &[T]) -> Option<usize> {
+    is.iter().zip(due).position(|(is, due)| is != due)
+}
+
+/// Where a lent slice first differs from what is due, in words.
+fn difference<T: PartialEq + Debug>(name: &str, is: &[T], due: &[T]) -> Option<String> {
+    let place = first_difference(is, due)?;
+    let (is, due) = (&is[place], &due[place]);
+    Some(format!("{name}[{place}] is {is:?}, not {due:?}"))
+}
+
+/// What stands for the answer of a call that ended the library's process; no right answer equals it.
+pub const NO_ANSWER: u64 = u64::MAX;
 
 /// A packed answer, printed as its number with first and second.
 #[derive(PartialEq)]
@@ -130,6 +99,9 @@ pub struct Answer(pub u64);
 
 impl Debug for Answer {
     fn fmt(&self, f: &mut Formatter) -> fmt::Result {
+        if self.0 == NO_ANSWER {
+            return write!(f, "none: the process ended");
+        }
         let (first, second) = (self.0 >> 28 & 0xFFF_FFFF, self.0 & 0xFFF_FFFF);
         write!(f, "{} ({first}, {second})", number_of(self.0))
     }
@@ -199,6 +171,26 @@ impl Display for Input {
 /// How often a call was compared, by the number of refusal it met, 0 if it wasn't refused.
 pub type Tally = BTreeMap<u32, u64>;
 
+/// Who is compared with the reference.
+pub trait Subject {
+    fn perform(&mut self, input: &Input) -> Outcome;
+    /// The program's output for its arguments and the text on standard input.
+    fn booklet(&mut self, arguments: &[Vec<u8>], text: &[u8]) -> Vec<u8>;
+}
+
+impl Subject for &'static Calls {
+    fn perform(&mut self, input: &Input) -> Outcome {
+        Outcome::of(self, input)
+    }
+
+    fn booklet(&mut self, arguments: &[Vec<u8>], text: &[u8]) -> Vec<u8> {
+        (self.booklet)(arguments, text)
+    }
+}
+
+/// A wrong variant of the reference, by its name.
+pub type Variant = (&'static str, &'static Calls);
+
 struct Difference {
     size: usize,
     words: String,
@@ -206,8 +198,10 @@ struct Difference {
 
 /// A run of the comparison: who is compared with whom, until when, and what has come of it.
 pub struct Comparison {
-    subject: &'static Calls,
+    subject: Box<dyn Subject>,
     reference: &'static Calls,
+    /// Variants not found yet.
+    wrong: Vec<Variant>,
     end: Instant,
     tallies: BTreeMap<Call, Tally>,
     pub programs: u64,
@@ -216,10 +210,16 @@ pub struct Comparison {
 }
 
 impl Comparison {
-    pub fn new(subject: &'static Calls, reference: &'static Calls, bound: Duration) -> Comparison {
+    pub fn new(
+        subject: impl Subject + 'static,
+        reference: &'static Calls,
+        wrong: &[Variant],
+        bound: Duration,
+    ) -> Comparison {
         Comparison {
-            subject,
+            subject: Box::new(subject),
             reference,
+            wrong: wrong.to_vec(),
             end: Instant::now() + bound,
             tallies: BTreeMap::new(),
             programs: 0,
@@ -228,14 +228,9 @@ impl Comparison {
         }
     }
 
-    /// What the library makes of a call, not yet compared.
-    pub fn perform(&self, input: &Input) -> Outcome {
-        Outcome::of(self.subject, input)
-    }
-
     /// Compares one call and gives what the library makes of it.
     pub fn compare(&mut self, input: &Input) -> Outcome {
-        let outcome = self.perform(input);
+        let outcome = self.subject.perform(input);
         let due = Outcome::of(self.reference, input);
         let tally = self.tallies.entry(input.call).or_default();
         *tally.entry(number_of(due.answer)).or_default() += 1;
@@ -244,11 +239,13 @@ impl Comparison {
                 format!("{input}: {}", outcome.difference(&due))
             });
         }
+        let unfound = |(_, calls): &Variant| Outcome::of(calls, input) == outcome;
+        self.wrong.retain(unfound);
         outcome
     }
 
     pub fn compare_program(&mut self, arguments: &[Vec<u8>], text: &[u8]) {
-        let output = (self.subject.booklet)(arguments, text);
+        let output = self.subject.booklet(arguments, text);
         let due = (self.reference.booklet)(arguments, text);
         self.programs += 1;
         if output != due {
@@ -258,6 +255,8 @@ impl Comparison {
                 format!("program with {arguments} on {text}: prints {output}, not {due}")
             });
         }
+        let unfound = |(_, calls): &Variant| (calls.booklet)(arguments, text) == output;
+        self.wrong.retain(unfound);
     }
 
     /// Holds what a call gave against what the definitions give.
@@ -296,13 +295,17 @@ impl Comparison {
         self.difference.as_ref().map(|known| known.words.as_str())
     }
 
-    /// Whether to stop: something differs, or the time is over.
-    pub fn is_over(&self) -> bool {
-        self.difference.is_some() || self.is_late()
+    pub fn differs(&self) -> bool {
+        self.difference.is_some()
     }
 
     pub fn is_late(&self) -> bool {
         Instant::now() >= self.end
+    }
+
+    /// The names of the wrong variants that no input has told from the library.
+    pub fn unfound(&self) -> Vec<&'static str> {
+        self.wrong.iter().map(|&(name, _)| name).collect()
     }
 
     pub fn tallies(&self) -> &BTreeMap<Call, Tally> {

@@ -168,73 +168,104 @@ fn set_bench_length(input: &mut Input, _: usize, value: u32) {
     input.bench.resize(value as usize, OLD_WORD);
 }
 
+fn set_mask_length(input: &mut Input, _: usize, value: u32) {
+    input.mask.resize(value as usize, OLD_BYTE);
+}
+
+fn set_route_length(input: &mut Input, _: usize, value: u32) {
+    input.route.resize(value as usize, OLD_WORD);
+}
+
+/// Crossings in and out of 1 to 5, and at the edges of every map.
+const ENDS: &[u32] = &[0, 1, 5, 6, 4_096, 4_097, u32::MAX];
+
 /// The changes to a call on the five crossings: n is 5, m is 7, the bench has 41 words.
-fn changes(call: Call) -> Vec<Change> {
-    const ENDS: &[u32] = &[0, 1, 5, 6, 4_096, 4_097, u32::MAX];
-    let mut changes = Vec::new();
-    let mut add = |set: fn(&mut Input, usize, u32), place: usize, values: &[u32]| {
-        changes.extend(values.iter().map(|&value| Change(set, place, value)));
-    };
-    let counts = [0, 1, 4, 6, 4_096, 4_097, u32::MAX];
-    add(|input, _, n| input.n = n, 0, &counts);
-    let counts = [0, 1, 6, 8, 16_384, 16_385, u32::MAX];
-    add(|input, _, m| input.m = m, 0, &counts);
-    add(set_map_length, 0, &[0, 1, 18, 20, 22, 24]);
-    for link in [0, 2, 6] {
-        add(set_map_word, 3 * link, &[0, 5, 6, u32::MAX]);
-        add(set_map_word, 3 * link + 1, &[0, 5, 6, u32::MAX]);
-        add(set_map_word, 3 * link + 2, &[0, 1, 65_535, 65_536]);
+#[derive(Default)]
+struct Changes(Vec<Change>);
+
+impl Changes {
+    fn of(call: Call) -> Vec<Change> {
+        let mut changes = Changes::default();
+        changes.add_map();
+        changes.add(set_bench_length, 0, &[0, 5, 40, 42, 48, 60]);
+        changes.add_own(call);
+        if call != Call::Open {
+            changes.add_head();
+            changes.add_parts();
+        }
+        changes.0
     }
-    add(set_bench_length, 0, &[0, 5, 40, 42, 48, 60]);
-    match call {
-        Call::Open => {
-            let stretches = [0, 999, 1_000, 4_000, 4_001, u32::MAX];
-            add(|input, _, start| input.order.start = start, 0, ENDS);
-            add(|input, _, target| input.order.target = target, 0, ENDS);
-            add(|input, _, value| input.order.stretch = value, 0, &stretches);
-            return changes;
-        }
-        Call::Area => {
-            let localities = [0, 1, 4, CEILING, CEILING + 1, u32::MAX];
-            let set_mask_length = |input: &mut Input, _: usize, length: u32| {
-                input.mask.resize(length as usize, OLD_BYTE);
-            };
-            add(|input, _, value| input.locality = value, 0, &localities);
-            add(set_mask_length, 0, &[0, 4, 6, 9]);
-        }
-        Call::Route => {
-            let set_route_length = |input: &mut Input, _: usize, length: u32| {
-                input.route.resize(length as usize, OLD_WORD);
-            };
-            add(|input, _, crossing| input.crossing = crossing, 0, ENDS);
-            add(set_route_length, 0, &[0, 1, 2, 3, 4, 5, 6]);
-        }
-        Call::Turn(_) | Call::Read => {}
+
+    fn add(&mut self, set: fn(&mut Input, usize, u32), place: usize, values: &[u32]) {
+        self.0
+            .extend(values.iter().map(|&value| Change(set, place, value)));
     }
-    add(set_bench_word, 0, &[0, 4, 6, 4_097, u32::MAX]);
-    add(set_bench_word, 1, &[0, 6, 8, 16_385, u32::MAX]);
-    add(set_bench_word, 2, ENDS);
-    add(set_bench_word, 3, ENDS);
-    add(set_bench_word, 4, &[0, 999, 1_000, 1_199, 4_000, 4_001]);
-    let optima = [0, 9, 10, 11, CEILING, CEILING + 1, UNKNOWN - 1, UNKNOWN];
-    add(set_bench_word, 5, &optima);
-    for half in [6, 21] {
-        for crossing in [0, 3, 4] {
-            let distances = [0, 5, 13, CEILING - 6, CEILING, CEILING + 1, UNKNOWN];
-            add(set_bench_word, half + crossing, &distances);
-            add(set_bench_word, half + 5 + crossing, &[0, 1, 6, 7, 8]);
-            add(set_bench_word, half + 10 + crossing, &[0, 1, 2, 3]);
+
+    fn add_map(&mut self) {
+        let counts = [0, 1, 4, 6, 4_096, 4_097, u32::MAX];
+        self.add(|input, _, n| input.n = n, 0, &counts);
+        let counts = [0, 1, 6, 8, 16_384, 16_385, u32::MAX];
+        self.add(|input, _, m| input.m = m, 0, &counts);
+        self.add(set_map_length, 0, &[0, 1, 18, 20, 22, 24]);
+        for link in [0, 2, 6] {
+            self.add(set_map_word, 3 * link, &[0, 5, 6, u32::MAX]);
+            self.add(set_map_word, 3 * link + 1, &[0, 5, 6, u32::MAX]);
+            self.add(set_map_word, 3 * link + 2, &[0, 1, 65_535, 65_536]);
         }
     }
-    for mark in [36, 39, 40] {
-        add(set_bench_word, mark, &[0, 1, 2, u32::MAX]);
+
+    /// What the call takes beside map and bench.
+    fn add_own(&mut self, call: Call) {
+        match call {
+            Call::Open => {
+                let stretches = [0, 999, 1_000, 4_000, 4_001, u32::MAX];
+                self.add(|input, _, start| input.order.start = start, 0, ENDS);
+                self.add(|input, _, target| input.order.target = target, 0, ENDS);
+                self.add(|input, _, value| input.order.stretch = value, 0, &stretches);
+            }
+            Call::Area => {
+                let localities = [0, 1, 4, CEILING, CEILING + 1, u32::MAX];
+                self.add(|input, _, value| input.locality = value, 0, &localities);
+                self.add(set_mask_length, 0, &[0, 4, 6, 9]);
+            }
+            Call::Route => {
+                self.add(|input, _, crossing| input.crossing = crossing, 0, ENDS);
+                self.add(set_route_length, 0, &[0, 1, 2, 3, 4, 5, 6]);
+            }
+            Call::Turn(_) | Call::Read => {}
+        }
     }
-    changes
+
+    /// Words 0 to 5 of the bench.
+    fn add_head(&mut self) {
+        self.add(set_bench_word, 0, &[0, 4, 6, 4_097, u32::MAX]);
+        self.add(set_bench_word, 1, &[0, 6, 8, 16_385, u32::MAX]);
+        self.add(set_bench_word, 2, ENDS);
+        self.add(set_bench_word, 3, ENDS);
+        self.add(set_bench_word, 4, &[0, 999, 1_000, 1_199, 4_000, 4_001]);
+        let optima = [0, 9, 10, 11, CEILING, CEILING + 1, UNKNOWN - 1, UNKNOWN];
+        self.add(set_bench_word, 5, &optima);
+    }
+
+    /// The halves and the marks of the bench.
+    fn add_parts(&mut self) {
+        for half in [6, 21] {
+            for crossing in [0, 3, 4] {
+                let distances = [0, 5, 13, CEILING - 6, CEILING, CEILING + 1, UNKNOWN];
+                self.add(set_bench_word, half + crossing, &distances);
+                self.add(set_bench_word, half + 5 + crossing, &[0, 1, 6, 7, 8]);
+                self.add(set_bench_word, half + 10 + crossing, &[0, 1, 2, 3]);
+            }
+        }
+        for mark in [36, 39, 40] {
+            self.add(set_bench_word, mark, &[0, 1, 2, u32::MAX]);
+        }
+    }
 }
 
 /// The input with each change and each two changes, so that every order of two refusals is met.
 pub fn changed(base: Input) -> impl Iterator<Item = Input> {
-    let changes = changes(base.call);
+    let changes = Changes::of(base.call);
     let count = changes.len();
     let pairs = (0..count).flat_map(move |first| (first..count).map(move |second| (first, second)));
     pairs.map(move |(first, second)| {
@@ -633,97 +664,94 @@ pub fn damaged_somewhere(random: &mut Random, text: &[u8]) -> Vec<u8> {
 }
 
 /// Texts at the edges of the layout and of every range.
-pub fn odd_texts() -> Vec<Vec<u8>> {
-    let texts: &[&[u8]] = &[
-        b"",
-        b"\n",
-        b" \n",
-        b"c\n",
-        b"c\nc\n",
-        b"c",
-        b"c five",
-        b"cx\n",
-        b"c\r\n",
-        b"c\t\n",
-        b"C x\n",
-        b"c x\r\np sp 1 0\n",
-        b"c \0\xff\np sp 1 0\nc\n",
-        b"p sp 1 0\n",
-        b"p sp 1 0",
-        b"p sp 1 0\r\n",
-        b"p sp 1 0\n\n",
-        b"p sp 1 0\nc",
-        b"p sp 0 0\n",
-        b"p sp 4096 0\n",
-        b"p sp 4097 0\n",
-        b"p sp 4097 16385\n",
-        b"p sp 1 16384\n",
-        b"p sp 1 16385\n",
-        b"p sp 1 4294967295\n",
-        b"p sp 4294967295 0\n",
-        b"p sp 4294967296 0\n",
-        b"p sp 9999999999 0\n",
-        b"p sp 10000000000 0\n",
-        b"p sp 1 4294967296\n",
-        b"p sp 00000000001 0\n",
-        b"p sp 01 0\n",
-        b"p sp 1 00\n",
-        b"p sp +1 0\n",
-        b"p sp -1 0\n",
-        b"p sp 0x1 0\n",
-        b"p sp 5000 x\n",
-        b"p  sp 1 0\n",
-        b"p sp  1 0\n",
-        b" p sp 1 0\n",
-        b"p sp 1 0 \n",
-        b"p sp 1 0 0\n",
-        b"p sp 1\n",
-        b"p sp 1 \n",
-        b"p sp\n",
-        b"p\n",
-        b"p\tsp\t1\t0\n",
-        b"p max 1 0\n",
-        b"P sp 1 0\n",
-        b"p SP 1 0\n",
-        b"p sp 1 0\np sp 1 0\n",
-        b"p sp 1 1\np sp 1 1\na 1 1 1\n",
-        b"p sp 1 1\na 1 1 1\np sp 1 1\n",
-        b"p sp 0 0\np sp 1 0\n",
-        b"a 1 1 1\n",
-        b"a 1 1 1\np sp 1 1\n",
-        b"a 9 9 0\np sp 1 1\n",
-        b"p sp 1 0\na 1 1 1\n",
-        b"p sp 1 1\n",
-        b"p sp 1 1\nc\n",
-        b"p sp 1 1\na 1 1 1\n",
-        b"p sp 1 1\na 1 1 1",
-        b"p sp 1 1\na 1 1 1\n\n",
-        b"p sp 1 1\na 1 1 1\r\n",
-        b"p sp 1 1\na 1 1 1\na 1 1 1\n",
-        b"p sp 1 1\na 1 1 1\na 9 9 0\n",
-        b"p sp 1 1\na 1 1\n",
-        b"p sp 1 1\na 1 1 1 1\n",
-        b"p sp 1 1\na 1 1 01\n",
-        b"p sp 1 1\na 1  1 1\n",
-        b"p sp 1 1\na 0 1 1\n",
-        b"p sp 1 1\na 1 0 1\n",
-        b"p sp 1 1\na 2 1 0\n",
-        b"p sp 1 1\na 1 2 0\n",
-        b"p sp 1 1\na 0 0 0\n",
-        b"p sp 1 1\na 1 2 x\n",
-        b"p sp 1 1\na 9 9 0",
-        b"p sp 1 1\na 1 1 0\n",
-        b"p sp 1 1\na 1 1 65535\n",
-        b"p sp 1 1\na 1 1 65536\n",
-        b"p sp 1 1\na 1 1 4294967295\n",
-        b"p sp 1 1\na 1 1 4294967296\n",
-        b"p sp 1 2\na 1 1 0\na 2 1 1\n",
-        b"p sp 1 2\na 1 1 1\n",
-        b"p sp 1 2\na 1 1 1\na 1 2 1\n",
-        b"p sp 2 1\na 1 2 1\nc\nc \nc x\n",
-    ];
-    texts.iter().map(|text| text.to_vec()).collect()
-}
+pub const ODD_TEXTS: &[&[u8]] = &[
+    b"",
+    b"\n",
+    b" \n",
+    b"c\n",
+    b"c\nc\n",
+    b"c",
+    b"c five",
+    b"cx\n",
+    b"c\r\n",
+    b"c\t\n",
+    b"C x\n",
+    b"c x\r\np sp 1 0\n",
+    b"c \0\xff\np sp 1 0\nc\n",
+    b"p sp 1 0\n",
+    b"p sp 1 0",
+    b"p sp 1 0\r\n",
+    b"p sp 1 0\n\n",
+    b"p sp 1 0\nc",
+    b"p sp 0 0\n",
+    b"p sp 4096 0\n",
+    b"p sp 4097 0\n",
+    b"p sp 4097 16385\n",
+    b"p sp 1 16384\n",
+    b"p sp 1 16385\n",
+    b"p sp 1 4294967295\n",
+    b"p sp 4294967295 0\n",
+    b"p sp 4294967296 0\n",
+    b"p sp 9999999999 0\n",
+    b"p sp 10000000000 0\n",
+    b"p sp 1 4294967296\n",
+    b"p sp 00000000001 0\n",
+    b"p sp 01 0\n",
+    b"p sp 1 00\n",
+    b"p sp +1 0\n",
+    b"p sp -1 0\n",
+    b"p sp 0x1 0\n",
+    b"p sp 5000 x\n",
+    b"p  sp 1 0\n",
+    b"p sp  1 0\n",
+    b" p sp 1 0\n",
+    b"p sp 1 0 \n",
+    b"p sp 1 0 0\n",
+    b"p sp 1\n",
+    b"p sp 1 \n",
+    b"p sp\n",
+    b"p\n",
+    b"p\tsp\t1\t0\n",
+    b"p max 1 0\n",
+    b"P sp 1 0\n",
+    b"p SP 1 0\n",
+    b"p sp 1 0\np sp 1 0\n",
+    b"p sp 1 1\np sp 1 1\na 1 1 1\n",
+    b"p sp 1 1\na 1 1 1\np sp 1 1\n",
+    b"p sp 0 0\np sp 1 0\n",
+    b"a 1 1 1\n",
+    b"a 1 1 1\np sp 1 1\n",
+    b"a 9 9 0\np sp 1 1\n",
+    b"p sp 1 0\na 1 1 1\n",
+    b"p sp 1 1\n",
+    b"p sp 1 1\nc\n",
+    b"p sp 1 1\na 1 1 1\n",
+    b"p sp 1 1\na 1 1 1",
+    b"p sp 1 1\na 1 1 1\n\n",
+    b"p sp 1 1\na 1 1 1\r\n",
+    b"p sp 1 1\na 1 1 1\na 1 1 1\n",
+    b"p sp 1 1\na 1 1 1\na 9 9 0\n",
+    b"p sp 1 1\na 1 1\n",
+    b"p sp 1 1\na 1 1 1 1\n",
+    b"p sp 1 1\na 1 1 01\n",
+    b"p sp 1 1\na 1  1 1\n",
+    b"p sp 1 1\na 0 1 1\n",
+    b"p sp 1 1\na 1 0 1\n",
+    b"p sp 1 1\na 2 1 0\n",
+    b"p sp 1 1\na 1 2 0\n",
+    b"p sp 1 1\na 0 0 0\n",
+    b"p sp 1 1\na 1 2 x\n",
+    b"p sp 1 1\na 9 9 0",
+    b"p sp 1 1\na 1 1 0\n",
+    b"p sp 1 1\na 1 1 65535\n",
+    b"p sp 1 1\na 1 1 65536\n",
+    b"p sp 1 1\na 1 1 4294967295\n",
+    b"p sp 1 1\na 1 1 4294967296\n",
+    b"p sp 1 2\na 1 1 0\na 2 1 1\n",
+    b"p sp 1 2\na 1 1 1\n",
+    b"p sp 1 2\na 1 1 1\na 1 2 1\n",
+    b"p sp 2 1\na 1 2 1\nc\nc \nc x\n",
+];
 
 /// The text with a comment before it that brings it to this many bytes.
 fn padded(text: &[u8], length: usize) -> Vec<u8> {
@@ -768,71 +796,73 @@ fn arguments(words: &[&str]) -> Vec<Vec<u8>> {
     words.iter().map(|word| word.as_bytes().to_vec()).collect()
 }
 
+/// Orders on the five crossings, in and out of every range.
+const ORDERS: &[[&str; 4]] = &[
+    ["1", "5", "1200", "1"],
+    ["1", "5", "1200", "0"],
+    ["5", "1", "1200", "0"],
+    ["1", "5", "1200", "5"],
+    ["1", "5", "1099", "5"],
+    ["1", "5", "1100", "0"],
+    ["1", "5", "1199", "268365825"],
+    ["1", "5", "1200", "268365826"],
+    ["1", "5", "1200", "4294967295"],
+    ["1", "5", "999", "0"],
+    ["1", "5", "1000", "0"],
+    ["1", "5", "4000", "0"],
+    ["1", "5", "4001", "0"],
+    ["3", "3", "4000", "0"],
+    ["0", "5", "1200", "0"],
+    ["6", "5", "1200", "0"],
+    ["1", "0", "1200", "0"],
+    ["1", "6", "1200", "0"],
+    ["1", "6", "999", "268365826"],
+    ["4294967295", "5", "1200", "0"],
+];
+
+/// Arguments that are not four numbers.
+const BAD_ARGUMENTS: &[&[&str]] = &[
+    &["4294967296", "5", "1200", "0"],
+    &["10000000000", "5", "1200", "0"],
+    &["01", "5", "1200", "0"],
+    &["1", "05", "1200", "0"],
+    &["1", "5", "01200", "0"],
+    &["1", "5", "1200", "00"],
+    &["+1", "5", "1200", "0"],
+    &["-1", "5", "1200", "0"],
+    &["1 ", "5", "1200", "0"],
+    &[" 1", "5", "1200", "0"],
+    &["1\n", "5", "1200", "0"],
+    &["1", "5\u{e9}", "1200", "0"],
+    &["", "5", "1200", "0"],
+    &["1", "5", "1200", ""],
+    &["1", "5", "1,200", "0"],
+    &["1", "5", "1200", "x"],
+    &["1", "5", "1200"],
+    &["1", "5", "1200", "0", "0"],
+    &["1", "5", "1200", "0", ""],
+    &["1 5 1200 0"],
+    &[],
+];
+
 /// Runs on the five crossings with every kind of argument, on odd texts, and on texts at the limit of length.
 pub fn runs() -> Vec<Run> {
-    let mut runs: Vec<Run> = Vec::new();
-    let lists: &[&[&str]] = &[
-        &["1", "5", "1200", "1"],
-        &["1", "5", "1200", "0"],
-        &["1", "5", "1200", "5"],
-        &["1", "5", "1099", "5"],
-        &["1", "5", "1100", "0"],
-        &["1", "5", "1199", "268365825"],
-        &["1", "5", "1200", "268365826"],
-        &["1", "5", "1200", "4294967295"],
-        &["1", "5", "999", "0"],
-        &["1", "5", "1000", "0"],
-        &["1", "5", "4000", "0"],
-        &["1", "5", "4001", "0"],
-        &["3", "3", "4000", "0"],
-        &["5", "1", "1200", "0"],
-        &["0", "5", "1200", "0"],
-        &["6", "5", "1200", "0"],
-        &["1", "0", "1200", "0"],
-        &["1", "6", "1200", "0"],
-        &["1", "6", "999", "268365826"],
-        &["4294967295", "5", "1200", "0"],
-        &["4294967296", "5", "1200", "0"],
-        &["10000000000", "5", "1200", "0"],
-        &["01", "5", "1200", "0"],
-        &["1", "05", "1200", "0"],
-        &["1", "5", "01200", "0"],
-        &["1", "5", "1200", "00"],
-        &["+1", "5", "1200", "0"],
-        &["-1", "5", "1200", "0"],
-        &["1 ", "5", "1200", "0"],
-        &[" 1", "5", "1200", "0"],
-        &["1\n", "5", "1200", "0"],
-        &["", "5", "1200", "0"],
-        &["1", "5", "1200", ""],
-        &["1", "5", "1,200", "0"],
-        &["1", "5", "1200", "x"],
-        &["1", "5", "1200"],
-        &["1", "5", "1200", "0", "0"],
-        &["1", "5", "1200", "0", ""],
-        &["1 5 1200 0"],
-        &[],
-    ];
-    let cut = &FIVE_TEXT[..FIVE_TEXT.len() - 8];
-    let no_route = [b"p sp 5 6", &cut[25..]].concat();
-    for list in lists {
-        runs.push((arguments(list), FIVE_TEXT.to_vec()));
-        runs.push((arguments(list), no_route.clone()));
-        runs.push((arguments(list), b"p sp 5 7".to_vec()));
-    }
-    let sample = arguments(&["1", "5", "1200", "1"]);
-    let mut not_utf8 = sample.clone();
-    not_utf8[0].push(0xff);
-    runs.push((not_utf8, FIVE_TEXT.to_vec()));
+    let order = |row: &[&str; 4]| arguments(row);
+    let five = |row| (order(row), FIVE_TEXT.to_vec());
+    let mut runs: Vec<Run> = ORDERS.iter().map(five).collect();
+    let cut = text(&five_crossings_cut());
+    runs.extend(ORDERS[..3].iter().map(|row| (order(row), cut.clone())));
+    // Arguments come before the text: this one would be refused at its line 1.
+    let unfinished = b"p sp 5 7".to_vec();
+    let bad = |row: &&[&str]| (arguments(row), unfinished.clone());
+    runs.extend(BAD_ARGUMENTS.iter().map(bad));
+    runs.push((order(&ORDERS[0]), unfinished.clone()));
     let one = arguments(&["1", "1", "1000", "0"]);
-    runs.extend(odd_texts().into_iter().map(|text| (one.clone(), text)));
-    for length in [
-        PROGRAM_TEXT - 1,
-        PROGRAM_TEXT,
-        PROGRAM_TEXT + 1,
-        MOST_TEXT + 1,
-    ] {
-        runs.push((sample.clone(), padded(FIVE_TEXT, length)));
+    let odd = |text: &&[u8]| (one.clone(), text.to_vec());
+    runs.extend(ODD_TEXTS.iter().map(odd));
+    for more in [0, 1, 2, MOST_TEXT] {
+        let length = PROGRAM_TEXT - 1 + more;
+        runs.push((order(&ORDERS[0]), padded(FIVE_TEXT, length)));
         runs.push((one.clone(), padded(b"x\n", length)));
         runs.push((arguments(&["x"]), padded(FIVE_TEXT, length)));
     }

@@ -1,174 +1,138 @@
-//! The proved library through its C interface, and its program `booklet`.
+//! The proved library, which calls.c makes a process of its own, and its program `booklet`.
 //!
-//! `libsankayop.a` is linked from the folder that SANKAYOP_LIB named when this was built; the program is
-//! run from the path in SANKAYOP_BOOKLET.
+//! SANKAYOP_CALLS and SANKAYOP_BOOKLET name the two programs, SANKAYOP_LAUNCHER the words to put before
+//! them on a machine that doesn't run them by itself.
 
-use crate::paper::{Calls, Side};
+use crate::comparison::{Outcome, Subject, NO_ANSWER};
+use crate::inputs::{Call, Input};
+use crate::paper::Side;
 use std::env;
-use std::ffi::{OsStr, OsString};
-use std::io::{self, Write};
+use std::ffi::OsStr;
+use std::io::{self, BufReader, Read, Write};
 use std::os::unix::ffi::OsStrExt;
-use std::process::{Command, Output, Stdio};
+use std::process::{ChildStdin, ChildStdout, Command, Output, Stdio};
 
-extern "C" {
-    fn sankayop_read(text: *const u8, text_length: usize, map: *mut u32, map_length: usize) -> u64;
-    fn sankayop_open(
-        map: *const u32,
-        map_length: usize,
-        n: u32,
-        m: u32,
-        start: u32,
-        target: u32,
-        stretch: u32,
-        bench: *mut u32,
-        bench_length: usize,
-    ) -> u64;
-    fn sankayop_forward(
-        map: *const u32,
-        map_length: usize,
-        n: u32,
-        m: u32,
-        bench: *mut u32,
-        bench_length: usize,
-    ) -> u64;
-    fn sankayop_backward(
-        map: *const u32,
-        map_length: usize,
-        n: u32,
-        m: u32,
-        bench: *mut u32,
-        bench_length: usize,
-    ) -> u64;
-    fn sankayop_area(
-        map: *const u32,
-        map_length: usize,
-        n: u32,
-        m: u32,
-        bench: *const u32,
-        bench_length: usize,
-        locality: u32,
-        mask: *mut u8,
-        mask_length: usize,
-    ) -> u64;
-    fn sankayop_route(
-        map: *const u32,
-        map_length: usize,
-        n: u32,
-        m: u32,
-        bench: *const u32,
-        bench_length: usize,
-        crossing: u32,
-        route: *mut u32,
-        route_length: usize,
-    ) -> u64;
+pub struct Library {
+    requests: ChildStdin,
+    answers: BufReader<ChildStdout>,
 }
 
-pub const CALLS: Calls = Calls {
-    read,
-    open,
-    turn,
-    area,
-    route,
-    booklet,
-};
+impl Library {
+    pub fn start() -> Result<Library, String> {
+        named("SANKAYOP_BOOKLET")?;
+        let mut process = launched(&named("SANKAYOP_CALLS")?)
+            .stdin(Stdio::piped())
+            .stdout(Stdio::piped())
+            .spawn()
+            .map_err(|error| format!("SANKAYOP_CALLS is not run: {error}"))?;
+        let pipes = (process.stdin.take(), process.stdout.take());
+        let (Some(requests), Some(answers)) = pipes else {
+            return Err("SANKAYOP_CALLS has no pipes".to_string());
+        };
+        Ok(Library {
+            requests,
+            answers: BufReader::new(answers),
+        })
+    }
 
-// What a caller owes holds for every slice: aligned, not null also when empty, of the length given, and
-// a slice lent to be written overlaps no other.
+    /// One call as calls.c reads it, and the answer with all lent memory as calls.c writes it.
+    fn ask(&mut self, input: &Input) -> io::Result<Outcome> {
+        self.requests.write_all(&request(input))?;
+        let mut answer = [0; 8];
+        self.answers.read_exact(&mut answer)?;
+        Ok(Outcome {
+            answer: u64::from_le_bytes(answer),
+            text: self.bytes(input.text.len())?,
+            map: self.words(input.map.len())?,
+            bench: self.words(input.bench.len())?,
+            mask: self.bytes(input.mask.len())?,
+            route: self.words(input.route.len())?,
+        })
+    }
 
-fn read(text: &[u8], map: &mut [u32]) -> u64 {
-    // SAFETY: both pointers and lengths come from slices.
-    unsafe { sankayop_read(text.as_ptr(), text.len(), map.as_mut_ptr(), map.len()) }
-}
+    fn bytes(&mut self, length: usize) -> io::Result<Vec<u8>> {
+        let mut bytes = vec![0; length];
+        self.answers.read_exact(&mut bytes)?;
+        Ok(bytes)
+    }
 
-fn open(
-    map: &[u32],
-    n: u32,
-    m: u32,
-    start: u32,
-    target: u32,
-    stretch: u32,
-    bench: &mut [u32],
-) -> u64 {
-    let (words, length) = (bench.as_mut_ptr(), bench.len());
-    // SAFETY: both pointers and lengths come from slices.
-    unsafe {
-        sankayop_open(
-            map.as_ptr(),
-            map.len(),
-            n,
-            m,
-            start,
-            target,
-            stretch,
-            words,
-            length,
-        )
+    fn words(&mut self, length: usize) -> io::Result<Vec<u32>> {
+        let bytes = self.bytes(4 * length)?;
+        let word = |word: &[u8]| u32::from_le_bytes([word[0], word[1], word[2], word[3]]);
+        Ok(bytes.chunks_exact(4).map(word).collect())
     }
 }
 
-fn turn(side: Side, map: &[u32], n: u32, m: u32, bench: &mut [u32]) -> u64 {
-    let call = match side {
-        Side::Forward => sankayop_forward,
-        Side::Backward => sankayop_backward,
+impl Subject for Library {
+    fn perform(&mut self, input: &Input) -> Outcome {
+        self.ask(input).unwrap_or_else(|_| {
+            let mut outcome = Outcome::before(input);
+            outcome.answer = NO_ANSWER;
+            outcome
+        })
+    }
+
+    /// The program's output; a failure to run it is put into words, which no right output equals.
+    fn booklet(&mut self, arguments: &[Vec<u8>], text: &[u8]) -> Vec<u8> {
+        match run_booklet(arguments, text) {
+            Ok(output) if output.status.success() => output.stdout,
+            Ok(output) => format!("ended with {}", output.status).into_bytes(),
+            Err(error) => format!("not run: {error}").into_bytes(),
+        }
+    }
+}
+
+fn request(input: &Input) -> Vec<u8> {
+    let call = match input.call {
+        Call::Read => 0,
+        Call::Open => 1,
+        Call::Turn(Side::Forward) => 2,
+        Call::Turn(Side::Backward) => 3,
+        Call::Area => 4,
+        Call::Route => 5,
     };
-    let (words, length) = (bench.as_mut_ptr(), bench.len());
-    // SAFETY: both pointers and lengths come from slices.
-    unsafe { call(map.as_ptr(), map.len(), n, m, words, length) }
+    let order = input.order;
+    let numbers = [call, input.n, input.m, order.start, order.target];
+    let more = [order.stretch, input.locality, input.crossing];
+    let lengths = [
+        input.text.len(),
+        input.map.len(),
+        input.bench.len(),
+        input.mask.len(),
+        input.route.len(),
+    ];
+    let mut request = Vec::new();
+    add_words(&mut request, &numbers);
+    add_words(&mut request, &more);
+    add_words(&mut request, &lengths.map(|length| length as u32));
+    request.extend(&input.text);
+    add_words(&mut request, &input.map);
+    add_words(&mut request, &input.bench);
+    request.extend(&input.mask);
+    add_words(&mut request, &input.route);
+    request
 }
 
-fn area(map: &[u32], n: u32, m: u32, bench: &[u32], locality: u32, mask: &mut [u8]) -> u64 {
-    let (bytes, length) = (mask.as_mut_ptr(), mask.len());
-    // SAFETY: the three pointers and lengths come from slices.
-    unsafe {
-        sankayop_area(
-            map.as_ptr(),
-            map.len(),
-            n,
-            m,
-            bench.as_ptr(),
-            bench.len(),
-            locality,
-            bytes,
-            length,
-        )
-    }
+fn add_words(request: &mut Vec<u8>, words: &[u32]) {
+    request.extend(words.iter().flat_map(|word| word.to_le_bytes()));
 }
 
-fn route(map: &[u32], n: u32, m: u32, bench: &[u32], crossing: u32, buffer: &mut [u32]) -> u64 {
-    let (words, length) = (buffer.as_mut_ptr(), buffer.len());
-    // SAFETY: the three pointers and lengths come from slices.
-    unsafe {
-        sankayop_route(
-            map.as_ptr(),
-            map.len(),
-            n,
-            m,
-            bench.as_ptr(),
-            bench.len(),
-            crossing,
-            words,
-            length,
-        )
-    }
+fn named(variable: &str) -> Result<String, String> {
+    env::var(variable).map_err(|_| format!("{variable} names no program"))
 }
 
-/// Where the program is, if the environment says so.
-pub fn booklet_path() -> Option<OsString> {
-    env::var_os("SANKAYOP_BOOKLET")
-}
-
-/// The program's output; a failure to run it is put into words, which no right output equals.
-fn booklet(arguments: &[Vec<u8>], text: &[u8]) -> Vec<u8> {
-    match run_booklet(arguments, text) {
-        Ok(output) if output.status.code().is_some() => output.stdout,
-        Ok(output) => format!("ended by a signal: {}", output.status).into_bytes(),
-        Err(error) => format!("not run: {error}").into_bytes(),
-    }
+/// The program, behind the words of the launcher.
+fn launched(program: &str) -> Command {
+    let launcher = env::var("SANKAYOP_LAUNCHER").unwrap_or_default();
+    let mut words = launcher.split_whitespace().chain([program]);
+    let mut command = Command::new(words.next().unwrap_or(program));
+    command.args(words);
+    command
 }
 
 fn run_booklet(arguments: &[Vec<u8>], text: &[u8]) -> io::Result<Output> {
-    let path = booklet_path().unwrap_or_default();
-    let mut child = Command::new(path)
+    let program = named("SANKAYOP_BOOKLET").map_err(io::Error::other)?;
+    let mut child = launched(&program)
         .args(arguments.iter().map(|argument| OsStr::from_bytes(argument)))
         .stdin(Stdio::piped())
         .stdout(Stdio::piped())

@@ -74,17 +74,15 @@ impl Comparison {
         let mut bench = self.opened(&theory);
         let mut counts = Counts::NONE;
         let backward_in = random.between(2, 5);
-        while !counts.are_final(&theory) && !self.is_over() {
+        while !counts.are_final(&theory) && !self.differs() {
             let side = if random.one_in(backward_in) {
                 Side::Backward
             } else {
                 Side::Forward
             };
             let after = counts.after(side, &theory);
-            // Large maps take their time: only some of their turns are compared in full.
-            let full = map.n <= 100 || random.one_in(16) || after.are_final(&theory);
-            let due = full.then(|| theory.bench(after.forward, after.backward));
-            bench = self.turn(&theory, side, &bench, counts, due.as_deref());
+            let due = theory.bench(after.forward, after.backward);
+            bench = self.turn(&theory, side, &bench, counts, &due);
             counts = after;
         }
         self.schedules += u64::from(counts.are_final(&theory));
@@ -92,34 +90,52 @@ impl Comparison {
         self.answers(&theory, &bench, counts, &[0, 1, locality, CEILING]);
     }
 
+    /// A turn of each half at some counts, the first and the last among them, then area and routes: all the
+    /// turns of a large map take too long.
+    pub fn some_turns(&mut self, random: &mut Random, map: &Map, order: Order) {
+        let theory = Theory::new(map, order);
+        self.opened(&theory);
+        let [forward, backward] = SIDES.map(|side| theory.settles(side));
+        let last = Counts { forward, backward };
+        let mut any = || Counts {
+            forward: random.up_to(forward as u32) as usize,
+            backward: random.up_to(backward as u32) as usize,
+        };
+        for counts in [Counts::NONE, any(), any(), any(), any(), any(), last] {
+            let bench = theory.bench(counts.forward, counts.backward);
+            for side in SIDES {
+                let after = counts.after(side, &theory);
+                let due = theory.bench(after.forward, after.backward);
+                self.turn(&theory, side, &bench, counts, &due);
+            }
+        }
+        let locality = random.up_to(theory.optimum().unwrap_or(CEILING));
+        self.answers(&theory, &theory.finished(), last, &[0, locality, CEILING]);
+    }
+
     /// The bench after opening.
     fn opened(&mut self, theory: &Theory) -> Vec<u32> {
         let input = Input::open(&theory.map, theory.order);
         let outcome = self.compare(&input);
-        self.expect_words(&input, "bench", outcome.bench(), &theory.bench(0, 0));
-        outcome.bench().to_vec()
+        self.expect_words(&input, "bench", &outcome.bench, &theory.bench(0, 0));
+        outcome.bench
     }
 
-    /// The bench after one turn; if the bench due is given, the turn is compared in full.
+    /// The bench after one turn.
     fn turn(
         &mut self,
         theory: &Theory,
         side: Side,
         bench: &[u32],
         mut counts: Counts,
-        due: Option<&[u32]>,
+        due: &[u32],
     ) -> Vec<u32> {
         let input = Input::turn(side, &theory.map, bench);
-        let outcome = match due {
-            Some(_) => self.compare(&input),
-            None => self.perform(&input),
-        };
+        let outcome = self.compare(&input);
         let answer = Answer(theory.turn(side, *counts.of(side)).packed());
         self.expect(&input, "the answer", Answer(outcome.answer), answer);
-        if let Some(due) = due {
-            self.expect_words(&input, "bench", outcome.bench(), due);
-        }
-        outcome.bench().to_vec()
+        self.expect_words(&input, "bench", &outcome.bench, due);
+        outcome.bench
     }
 
     /// All ways to go on from these counts.
@@ -127,7 +143,7 @@ impl Comparison {
         for side in SIDES {
             let after = counts.after(side, &plan.theory);
             let due = &plan.benches[after.forward][after.backward];
-            let turned = self.turn(&plan.theory, side, bench, counts, Some(due));
+            let turned = self.turn(&plan.theory, side, bench, counts, due);
             if after != counts {
                 self.branches(plan, &turned, after);
             }
@@ -149,7 +165,7 @@ impl Comparison {
             let outcome = self.compare(&input);
             self.expect(&input, "the number", number_of(outcome.answer), refusal);
             if refusal == 0 {
-                self.expect_words(&input, "mask", outcome.mask(), &theory.mask(locality));
+                self.expect_words(&input, "mask", &outcome.mask, &theory.mask(locality));
             }
         }
         let n = theory.map.n;
@@ -171,7 +187,7 @@ impl Comparison {
         let outcome = self.compare(&input);
         self.expect(&input, "the number", number_of(outcome.answer), number);
         if let (0, Some(due)) = (number, due) {
-            self.expect_words(&input, "route", outcome.route(), &due);
+            self.expect_words(&input, "route", &outcome.route, &due);
             self.compare(&Input::route(&theory.map, bench, crossing, room - 1));
         }
     }

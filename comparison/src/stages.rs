@@ -1,5 +1,5 @@
-//! The inputs in the order in which they are compared: the small and fixed ones first, so that a
-//! difference shows on a small input.
+//! The inputs in the order in which they are compared: the fixed ones first, the small before the large, so
+//! that a difference shows on a small input and the time bounds the random ones alone.
 
 use crate::comparison::Comparison;
 use crate::inputs::{self, Input, Random, Run};
@@ -18,26 +18,26 @@ pub const ALL: &[Stage] = &[
     Comparison::five_crossings,
     Comparison::changes,
     Comparison::programs,
-    |comparison| comparison.rounds(400),
     Comparison::long_texts,
-    Comparison::long_programs,
     Comparison::large,
+    Comparison::long_programs,
+    |comparison| comparison.rounds(20),
 ];
 
 impl Comparison {
-    /// These stages, until something differs or the time is over.
+    /// These stages, until something differs.
     pub fn run(&mut self, stages: &[Stage]) {
         for stage in stages {
-            if !self.is_over() {
+            if !self.differs() {
                 stage(self);
             }
         }
     }
 
     pub fn texts(&mut self) {
-        for text in inputs::odd_texts() {
+        for text in inputs::ODD_TEXTS {
             for room in [0, 2, 3, 4, 6, 9] {
-                self.compare(&Input::read(&text, room));
+                self.compare(&Input::read(text, room));
             }
         }
         for text in inputs::damaged(inputs::FIVE_TEXT) {
@@ -56,7 +56,7 @@ impl Comparison {
 
     pub fn changes(&mut self) {
         for base in inputs::bases() {
-            if self.is_over() {
+            if self.differs() {
                 return;
             }
             self.compare(&base);
@@ -76,17 +76,17 @@ impl Comparison {
 
     fn compare_programs(&mut self, runs: Vec<Run>) {
         for (arguments, text) in runs {
-            if self.is_over() {
+            if self.differs() {
                 return;
             }
             self.compare_program(&arguments, &text);
         }
     }
 
-    /// Random inputs, a seed for each round.
-    pub fn rounds(&mut self, rounds: u64) {
-        for round in 0..rounds {
-            if self.is_over() {
+    /// Random inputs, a seed for each round: at least so many rounds, and then until the time is over.
+    pub fn rounds(&mut self, least: u64) {
+        for round in 0.. {
+            if self.differs() || (round >= least && self.is_late()) {
                 return;
             }
             self.round(&mut Random::new(round));
@@ -153,7 +153,7 @@ impl Comparison {
             if number_of(outcome.answer) > 0 {
                 break;
             }
-            turned = outcome.bench().to_vec();
+            turned = outcome.bench;
         }
         self.compare(&Input::area(map, &turned, locality));
     }
@@ -179,7 +179,7 @@ impl Comparison {
 
     pub fn long_texts(&mut self) {
         for text in inputs::long_texts() {
-            if self.is_over() {
+            if self.differs() {
                 return;
             }
             for room in [21, 49_151, 49_152] {
@@ -191,12 +191,12 @@ impl Comparison {
     fn large(&mut self) {
         let random = &mut Random::new(SEED);
         for (map, order) in inputs::large(random) {
-            if self.is_over() {
+            if self.differs() {
                 return;
             }
             self.compare(&Input::read(&inputs::text(&map), map.words.len()));
             self.edges(&map, order);
-            self.random_schedule(random, &map, order);
+            self.some_turns(random, &map, order);
         }
     }
 
