@@ -13,11 +13,17 @@ use Rattle.bench.proofs.area.Reads as masking
 use Rattle.bench.proofs.fill_route.Reads as filling
 use Rattle.bench.proofs.route.Reads as handing
 use Rattle.bench.proofs.route_refusal.Reads as asking
+use Rattle.sankayop.proofs.sankayop_read.Reads as c-reading
+use Rattle.sankayop.proofs.sankayop_open.Reads as c-opening
+use Rattle.sankayop.proofs.sankayop_forward.Reads as c-going
+use Rattle.sankayop.proofs.sankayop_backward.Reads as c-coming
+use Rattle.sankayop.proofs.sankayop_area.Reads as c-masking
+use Rattle.sankayop.proofs.sankayop_route.Reads as c-filling
 use Rattle.claims.proofs.mixture.Reads as mixing
 use Rattle.map.specs.Map.{mapFault}
 use Rattle.area.specs.Finished.{routeFault}
 use mathlib.Core.Path.{_≡_}
-use Rattle.claims.specs.Promises.{Read, Open, TakeTurn, FillMask, FillRoute, HandRoute, Mix}
+use Rattle.claims.specs.Promises.{Read, Open, TakeTurn, FillMask, FillRoute, HandRoute, Mix, ReadPacked, OpenPacked, TurnPacked, MaskPacked, RoutePacked}
 
 pub read-contract : (κs : _) (a : _) → reading.Pre κs a × ((r : _) (e : _) → reading.Post κs a r e → Read (a .0 .now) (a .1 .0 .now) r (e .1 .0 .now))
 read-contract κs a = (tt, λ r e p. p)
@@ -69,3 +75,35 @@ pub mixture-contract : (κs : _) (a : _)
     → Mix (a .0 .now) (a .1 .0) (a .1 .1 .0) (a .1 .1 .1 .0) (a .1 .1 .1 .1 .0) (a .1 .1 .1 .1 .1 .0) (a .1 .1 .1 .1 .1 .1 .1 .0 .now) (a .1 .1 .1 .1 .1 .1 .0 .now) r
     (e .1 .1 .1 .1 .1 .1 .0 .now))
 mixture-contract κs a = (tt, λ r e p. p)
+
+-- ---- the C interface
+
+pub c-read-contract : (κs : _) (a : _)
+    → c-reading.Pre κs a × ((r : _) (e : _) → c-reading.Post κs a r e → ReadPacked (a .0 .now) (a .1 .0 .now) r (e .1 .0 .now))
+c-read-contract κs a = (tt, λ r e p. p)
+
+pub c-open-contract : (κs : _) (a : _)
+    → c-opening.Pre κs a
+    × ((r : _) (e : _) → c-opening.Post κs a r e
+    → OpenPacked (a .0 .now) (a .1 .0) (a .1 .1 .0) (a .1 .1 .1 .0) (a .1 .1 .1 .1 .0) (a .1 .1 .1 .1 .1 .0) (a .1 .1 .1 .1 .1 .1 .0 .now) r (e .1 .1 .1 .1 .1 .1 .0 .now))
+c-open-contract κs a = (tt, λ r e p. p)
+
+pub c-forward-contract : (κs : _) (a : _)
+    → c-going.Pre κs a × ((r : _) (e : _) → c-going.Post κs a r e → TurnPacked Forward (a .0 .now) (a .1 .0) (a .1 .1 .0) (a .1 .1 .1 .0 .now) r (e .1 .1 .1 .0 .now))
+c-forward-contract κs a = (tt, λ r e p. p)
+
+pub c-backward-contract : (κs : _) (a : _)
+    → c-coming.Pre κs a × ((r : _) (e : _) → c-coming.Post κs a r e → TurnPacked Backward (a .0 .now) (a .1 .0) (a .1 .1 .0) (a .1 .1 .1 .0 .now) r (e .1 .1 .1 .0 .now))
+c-backward-contract κs a = (tt, λ r e p. p)
+
+pub c-area-contract : (κs : _) (a : _)
+    → c-masking.Pre κs a
+    × ((r : _) (e : _) → c-masking.Post κs a r e
+    → MaskPacked (a .0 .now) (a .1 .0) (a .1 .1 .0) (a .1 .1 .1 .0 .now) (a .1 .1 .1 .1 .0) (a .1 .1 .1 .1 .1 .0 .now) r (e .1 .1 .1 .1 .1 .0 .now))
+c-area-contract κs a = (tt, λ r e p. p)
+
+pub c-route-contract : (κs : _) (a : _)
+    → c-filling.Pre κs a
+    × ((r : _) (e : _) → c-filling.Post κs a r e
+    → RoutePacked (a .0 .now) (a .1 .0) (a .1 .1 .0) (a .1 .1 .1 .0 .now) (a .1 .1 .1 .1 .0) (a .1 .1 .1 .1 .1 .0 .now) r (e .1 .1 .1 .1 .1 .0 .now))
+c-route-contract κs a = (tt, λ r e p. p)

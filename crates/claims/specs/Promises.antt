@@ -22,6 +22,7 @@ use Rattle.bench.specs.declared.Filling.{Filling}
 use Rattle.bench.specs.declared.Opening.{Opening}
 use Rattle.bench.specs.declared.Routing.{Routing}
 use Rattle.bench.specs.declared.Turn.{Turn}
+use Rattle.sankayop.specs.Packed.{inOne, packed, Fits}
 use Rattle.claims.specs.Calls.{mixtureWords}
 
 -- ---- the promises, as the contracts state them
@@ -50,6 +51,23 @@ abbrev pub Mix : List ℕ → ℕ → ℕ → ℕ → ℕ → ℕ → List ℕ �
 Mix map n m start target stretch schedule x r after =
     (saidOpening r ≡ openSaid map n m start target stretch x) × (after ≡ mixtureWords map n m start target stretch schedule x)
 
+-- the C interface: what the calls say, packed in one number
+abbrev pub ReadPacked : List ℕ → List ℕ → ℕ → List ℕ → Type 0
+ReadPacked text map r after = (r ≡ packed (readText (length map) text)) × (after ≡ mapAfter text map)
+
+abbrev pub OpenPacked : List ℕ → ℕ → ℕ → ℕ → ℕ → ℕ → List ℕ → ℕ → List ℕ → Type 0
+OpenPacked map n m start target stretch x r after =
+    (r ≡ packed (openSaid map n m start target stretch x)) × (after ≡ openWords map n m start target stretch x)
+
+abbrev pub TurnPacked : Side → List ℕ → ℕ → ℕ → List ℕ → ℕ → List ℕ → Type 0
+TurnPacked s map n m x r after = (r ≡ packed (turnSaid s map n m x)) × (after ≡ turnWords s map n m x)
+
+abbrev pub MaskPacked : List ℕ → ℕ → ℕ → List ℕ → ℕ → List ℕ → ℕ → List ℕ → Type 0
+MaskPacked map n m x locality mask r after = (r ≡ packed (areaSaid map n m x locality mask)) × (after ≡ areaMask map n m x locality mask)
+
+abbrev pub RoutePacked : List ℕ → ℕ → ℕ → List ℕ → ℕ → List ℕ → ℕ → List ℕ → Type 0
+RoutePacked map n m x crossing route r after = (r ≡ packed (routeSaid map n m x crossing route)) × (after ≡ routeBuffer map n m x crossing route)
+
 -- ---- what is shown of each
 
 -- of a call that is lent something to be written, and that may refuse with the numbers from low to high
@@ -60,6 +78,12 @@ pub record Kept {A : Type 0} (say : A → Said) (low high : ℕ) (lent : List �
   pub stays : (a : A) (after : List ℕ) → P a after → (number : ℕ) (rest : List ℕ) → say a ≡ refused number rest → after ≡ lent
   -- "a second program meeting that statement is shown to give the same"
   pub same : (a b : A) (x y : List ℕ) → P a x → P b y → (a ≡ b) × (x ≡ y)
+
+-- the same of a call whose answer is packed: it can be taken apart into a number of refusal, 0 for none, and two values
+pub record KeptPacked (low high : ℕ) (lent : List ℕ) (P : ℕ → List ℕ → Type 0) : Type 0 where
+  pub numbered : (r : ℕ) (after : List ℕ) → P r after → (number first second : ℕ) → Fits number first second → r ≡ inOne number first second → number ≢ 0 → Between low high number
+  pub stays : (r : ℕ) (after : List ℕ) → P r after → (number first second : ℕ) → Fits number first second → r ≡ inOne number first second → number ≢ 0 → after ≡ lent
+  pub same : (r q : ℕ) (x y : List ℕ) → P r x → P q y → (r ≡ q) × (x ≡ y)
 
 -- of a call that answers a number of refusal, 0 for none, and writes nothing
 pub record Answered (low high : ℕ) (P : ℕ → Type 0) : Type 0 where
@@ -91,3 +115,9 @@ pub record Promises (Place : Type 0) : Type 0 where
   -- claims::mixture, lent the bench x
   pub mixture : (map : List ℕ) (n m start target stretch : ℕ) (schedule x : List ℕ)
       → Kept saidOpening 2 5 x (Mix map n m start target stretch schedule x)
+  -- sankayop_read, sankayop_open, sankayop_forward and sankayop_backward, sankayop_area, sankayop_route
+  pub c-read : (text map : List ℕ) → KeptPacked 1 5 map (ReadPacked text map)
+  pub c-open : (map : List ℕ) (n m start target stretch : ℕ) (x : List ℕ) → KeptPacked 2 5 x (OpenPacked map n m start target stretch x)
+  pub c-turn : (s : Side) (map : List ℕ) (n m : ℕ) (x : List ℕ) → KeptPacked 2 6 x (TurnPacked s map n m x)
+  pub c-area : (map : List ℕ) (n m : ℕ) (x : List ℕ) (locality : ℕ) (mask : List ℕ) → KeptPacked 2 9 mask (MaskPacked map n m x locality mask)
+  pub c-route : (map : List ℕ) (n m : ℕ) (x : List ℕ) (crossing : ℕ) (route : List ℕ) → KeptPacked 2 10 route (RoutePacked map n m x crossing route)

@@ -1,30 +1,18 @@
--- With which number a check refuses: each of its parts with the same one; and the reader with 1 to 5. Assumes nothing.
+-- With which number a check refuses: each of its parts with the same one. Assumes nothing.
 use mathlib.Core.Path.{_≡_, refl}
 use mathlib.Core.Bool.{Bool, true, cond, _&&_}
 use mathlib.Core.Logic.{_≢_}
-use mathlib.Core.List.{List, [], _∷_}
+use mathlib.Core.List.{List}
 use Prim.Native.Nat.{ℕ, zero, suc, _+_, _-_}
 use native.Mathlib.Omega.{arith}
-use borrow.Author.Tests.{eqb-false}
 use lib.Dec.{eqb, ltb, leb}
-use lib.ListN.{length, getD}
+use lib.ListN.{getD}
 use Rattle.limits.specs.First.{orElse}
 use Rattle.limits.specs.Limits.{Between, numberOutside, roomFault}
 use Rattle.limits.specs.Said.{Said, told, refused}
-use Rattle.limits.proofs.Cases.{cond-both, cond-cases, cond-then, and-both}
+use Rattle.limits.proofs.Cases.{cond-both, cond-then, and-both}
 use Rattle.limits.proofs.Laws.{orElse-both, outside-both, room-both}
 use Rattle.limits.proofs.Said.{told-refused}
-use Rattle.line.specs.Line.{lineOf}
-use Rattle.line.specs.Lines.{linesOf}
-use Rattle.line.specs.declared.Field.{Field}
-use Rattle.line.specs.declared.Line.{Line}
-use Rattle.line.specs.declared.Line.the-variants.{Comment, Size, Link, Strange, Wrong}
-use Rattle.step.specs.Step.{stateOf, firstOf, sizeFault, linkFault, stepBy, sizeStep, linkStep, taken, stepThen}
-use Rattle.step.specs.declared.Fault.{Fault}
-use Rattle.step.specs.declared.State.{State}
-use Rattle.step.specs.declared.Step.{Step}
-use Rattle.step.specs.declared.Step.the-variants.{Go, Stop}
-use Rattle.text.specs.Text.{finish, readLines, readText}
 use Rattle.map.specs.Map.{cost}
 use Rattle.map.specs.Walk.{near, far}
 use Rattle.map.specs.declared.Side.{Side}
@@ -53,7 +41,7 @@ module _ (number : ℕ) where
   either : (a b : ℕ) → Only a → Only b → Only (orElse a b)
   either = orElse-both Only
 
-  unless-only : (t : Bool) → Only (cond t 0 number)
+  pub unless-only : (t : Bool) → Only (cond t 0 number)
   unless-only t = cond-both Only t none this
 
   pub where-only : (t : Bool) → Only (cond t number 0)
@@ -163,64 +151,3 @@ module _ (low high : ℕ) where
 
   pub refused-numbered : (fault : ℕ) (vs : List ℕ) → Between low high fault → Numbered (refused fault vs)
   refused-numbered fault vs b number rest e = let q : fault ≡ number = cc in omega (arith, q)
-
--- ---- the reader: 1 to 5
-
-abbrev Read : Said → Type 0
-Read = Numbered 1 5
-
-abbrev Listed : Fault → Type 0
-Listed f = f .number ≢ 0 → Between 1 5 (f .number)
-
-listed : {k fault : ℕ} → Only k fault → Between 1 5 k → fault ≢ 0 → Between 1 5 fault
-listed only b ne = omega (arith, only ne)
-
-first-listed : (a b : Fault) → Listed a → Listed b → Listed (firstOf a b)
-unfolding firstOf
-first-listed a b p q = cond-both Listed (eqb (a .number) 0) q p
-
-size-listed : (lent : ℕ) (n m : Field) → Listed (sizeFault lent n m)
-unfolding sizeFault
-size-listed lent n m =
-    let two : Between 1 5 2 = omega arith in
-    first-listed _ _ (listed (outside-only 2 _ _ _) two) (first-listed _ _ (listed (outside-only 2 _ _ _) two) (listed (room-only _ _) (omega arith)))
-
-link-listed : (n : ℕ) (u v w : Field) → Listed (linkFault n u v w)
-unfolding linkFault
-link-listed n u v w =
-    let four : Between 1 5 4 = omega arith in
-    first-listed _ _ (listed (outside-only 4 _ _ _) four) (first-listed _ _ (listed (outside-only 4 _ _ _) four) (listed (outside-only 5 _ _ _) (omega arith)))
-
--- a line goes on, or stops with such a number
-abbrev Goes : Step → Type 0
-Goes (Go st) = Unit {0}
-Goes (Stop fault) = Between 1 5 (fault .number)
-
-step-goes : (fault : Fault) (next : State) → Listed fault → Goes (stepBy fault next)
-unfolding stepBy
-step-goes fault next p = cond-cases Goes (eqb (fault .number) 0) (λ _. tt) (λ e. p (eqb-false _ _ e))
-
-line-goes : (lent : ℕ) (st : State) (l : Line) → Goes (taken lent st l)
-unfolding taken sizeStep linkStep
-line-goes lent st Comment = tt
-line-goes lent st (Size n m) = cond-both Goes (eqb (st .n) 0) (step-goes _ _ (size-listed lent n m)) (omega arith)
-line-goes lent st (Link u v w) = cond-both Goes (ltb (st .k) (st .m)) (step-goes _ _ (link-listed (st .n) u v w)) (omega arith)
-line-goes lent st (Strange p) = omega arith
-line-goes lent st (Wrong p) = omega arith
-
-lines-numbered : (lent : ℕ) (st : State) (at : ℕ) (ls : List (List ℕ)) → Read (readLines lent st at ls)
-unfolding readLines finish
-lines-numbered lent st at [] =
-    let one = refused-numbered 1 5 1 (at ∷ []) (omega arith) in
-    cond-both Read (eqb (st .n) 0) one (cond-both Read (eqb (st .k) (st .m)) (told-numbered 1 5 (st .n ∷ st .m ∷ [])) one)
-lines-numbered lent st at (l ∷ ls) = go (taken lent st (lineOf l)) (line-goes lent st (lineOf l)) (λ next. lines-numbered lent next (at + 1) ls)
-  where
-    go : (x : Step) → Goes x → ((next : State) → Read (readLines lent next (at + 1) ls))
-        → Read (stepThen x (λ next. readLines lent next (at + 1) ls) (λ fault. refused (fault .number) (at ∷ [])))
-    go (Go next) p rest = rest next
-    go (Stop fault) p rest = refused-numbered 1 5 (fault .number) (at ∷ []) p
-
-pub read-numbered : (lent : ℕ) (s : List ℕ) → Read (readText lent s)
-unfolding readText
-read-numbered lent s =
-    cond-both Read (ltb 1048576 (length s)) (refused-numbered 1 5 2 (0 ∷ []) (omega arith)) (lines-numbered lent (stateOf 0 0 0) 1 (linesOf s))

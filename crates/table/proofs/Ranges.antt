@@ -21,7 +21,8 @@ use Rattle.bench.specs.Areas.{areaSaid}
 use Rattle.bench.specs.Routes.{routeSaid}
 use Rattle.table.specs.Table.{unless, mapChecks, openChecks, benchChecks, turnChecks, areaChecks, routeChecks}
 use Rattle.table.proofs.Numbers.{Numbered, told-numbered, refused-numbered}
-use Rattle.table.proofs.Table.{judged-in, numbers-append, map-numbers, table}
+use Rattle.table.proofs.Judged.{judged-in, numbers-append}
+use Rattle.table.proofs.Table.{map-numbers, table}
 
 module _ (map : List ℕ) (n m : ℕ) where
   pub map-in : mapFault n m map ≢ 0 → Between 2 5 (mapFault n m map)

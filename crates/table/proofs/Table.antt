@@ -1,18 +1,22 @@
 -- The numbers that the calls on a map answer are those of the table, check by check. Assumes nothing.
 use mathlib.Core.Path.{_≡_, refl, sym, _∙_}
-use mathlib.Core.Bool.{cond}
-use mathlib.Core.Logic.{_≢_, inl, inr}
+use mathlib.Core.Bool.{Bool, true, false, cond}
+use mathlib.Core.Logic.{_≢_, inr}
 use mathlib.Core.List.{List, [], _∷_, _++_}
-use Prim.Native.Nat.{ℕ, zero, suc, _*_, _-_, _≤_}
-use native.Mathlib.Decide.{ℕ-discrete}
+use Prim.Native.Nat.{ℕ, zero, suc, _+_, _*_, _-_, _≤_, _<_}
 use native.Mathlib.Omega.{arith}
-use borrow.Author.Tests.{eq-eqb, ne-eqb}
-use lib.Dec.{eqb}
+use borrow.Author.Tests.{eq-eqb, ne-eqb, eqb-true, eqb-false, ltb-true, ltb-false}
+use lib.Dec.{eqb, ltb}
 use lib.ListN.{length, getD}
 use Rattle.limits.specs.First.{orElse, firstFrom}
-use Rattle.limits.specs.Limits.{Between, roomFault}
-use Rattle.limits.proofs.Laws.{orElse-first, orElse-second, orElse-none, none-orElse, outside-none, none-outside, room-none, none-room}
-use Rattle.map.specs.Map.{tail, head, cost, endsFault, linkFault, countsFault, mapFault}
+use Rattle.limits.specs.Limits.{roomFault}
+use Rattle.limits.proofs.Laws.{orElse-first, orElse-second, orElse-none, none-orElse, room-none}
+use Rattle.line.specs.declared.Line.the-variants.{Comment, Size, Link, Strange, Wrong}
+use Rattle.step.specs.Step.{faultAt, stateOf, firstOf, sizeFault, linkFault, stepBy, sizeStep, linkStep, taken}
+use Rattle.step.specs.declared.Fault.{Fault}
+use Rattle.step.specs.declared.State.{State}
+use Rattle.step.specs.declared.Step.the-variants.{Go, Stop}
+use Rattle.map.specs.Map as maps
 use Rattle.map.specs.declared.Side.{Side}
 use Rattle.map.specs.declared.Side.the-variants.{Forward, Backward}
 use Rattle.half.specs.Half.{unknown, ceiling}
@@ -28,84 +32,9 @@ use Rattle.trail.proofs.Soundness.{fault-sound, sound-fault, fault-marks, marks
 use Rattle.route.specs.Area.{routeOf}
 use Rattle.area.specs.Finished.{doneFault, unknownFault, ruleFault, trailsFault, finishedFault, areaFault, askedFault, routeFault}
 use Rattle.bench.specs.Calls.{orderFault, openFault, turnFault}
-use Rattle.table.specs.Table.{Check, unless, Judged, linkChecks, mapChecks, openChecks, benchChecks, turnChecks, finishedChecks, areaChecks, routeChecks, Table}
-use Rattle.table.proofs.Numbers.{Only, outside-only, room-only, where-only, shape-only, done-only, fault-done, done-fault, known-only, trails-only}
-
--- ---- laws of what is judged
-
--- the table leaves one number
-pub judged-same : (cs : List Check) (a b : ℕ) → Judged cs a → Judged cs b → a ≡ b
-judged-same [] a b p q = p ∙ sym q
-judged-same (unless given asked ∷ rest) a b (inl (_, p)) (inl (_, q)) = judged-same rest a b p q
-judged-same (unless given asked ∷ rest) a b (inl (y, _)) (inr (n, _)) = absurd (n y)
-judged-same (unless given asked ∷ rest) a b (inr (n, _)) (inl (y, _)) = absurd (n y)
-judged-same (unless given asked ∷ rest) a b (inr (_, p)) (inr (_, q)) = p ∙ sym q
-
--- every number lies in a range
-abbrev pub Numbers : ℕ → ℕ → List Check → Type 0
-Numbers low high [] = Unit {0}
-Numbers low high (unless given asked ∷ rest) = Between low high given × Numbers low high rest
-
-pub judged-in : (low high : ℕ) (cs : List Check) (number : ℕ) → Numbers low high cs → Judged cs number → number ≢ 0 → Between low high number
-judged-in low high [] number b p ne = absurd (ne p)
-judged-in low high (unless given asked ∷ rest) number b (inl (_, p)) ne = judged-in low high rest number (b .1) p ne
-judged-in low high (unless given asked ∷ rest) number b (inr (_, p)) ne = let z = b .0 in omega (arith, p)
-
-pub numbers-append : (low high : ℕ) (cs ds : List Check) → Numbers low high cs → Numbers low high ds → Numbers low high (cs ++ ds)
-numbers-append low high [] ds p q = q
-numbers-append low high (unless given asked ∷ rest) ds p q = (p .0, numbers-append low high rest ds (p .1) q)
-
--- checks, and the number that they give
-record Part : Type 1 where
-  checks : List Check
-  number : ℕ
-  numbers : Numbers 1 10 checks
-  judged : Judged checks number
-
--- the checks of p, and where all are met others
-next : (p : Part) (ds : List Check) (b : ℕ) → (p .number ≡ 0 → Judged ds b) → Judged (p .checks ++ ds) (orElse (p .number) b)
-next p ds b q = go (p .checks) (p .numbers) (p .judged)
-  where
-    go : (cs : List Check) → Numbers 1 10 cs → Judged cs (p .number) → Judged (cs ++ ds) (orElse (p .number) b)
-    go [] some z = rw (orElse-second (p .number) b z) (q z)
-    go (unless given asked ∷ rest) some (inl (y, j)) = inl (y, go rest (some .1) j)
-    go (unless given asked ∷ rest) some (inr (n, e)) = let z = some .0 in inr (n, orElse-first (p .number) b (λ k. omega (arith, e)) ∙ e)
-
--- the checks of p, then those of q
-both : Part → Part → Part
-both p q =
-    record {
-      checks = p .checks ++ q .checks;
-      number = orElse (p .number) (q .number);
-      numbers = numbers-append 1 10 (p .checks) (q .checks) (p .numbers) (q .numbers);
-      judged = next p (q .checks) (q .number) (λ _. q .judged);
-    }
-
--- ---- single checks
-
-one : {asked : Type 0} (given fault : ℕ) → Between 1 10 given → (fault ≡ 0 → asked) → (asked → fault ≡ 0) → Only given fault → Part
-one {asked} given fault b p q only =
-    record {
-      checks = unless given asked ∷ [];
-      number = fault;
-      numbers = (b, tt);
-      judged = go (ℕ-discrete fault 0);
-    }
-  where
-    go : Dec (fault ≡ 0) → Judged (unless given asked ∷ []) fault
-    go (yes z) = inl (p z, z)
-    go (no ne) = inr (λ y. ne (q y), only ne)
-
-in-range : (low high given x : ℕ) → Between 1 10 given → Part
-in-range low high given x b =
-    one given _ b (outside-none low high given x (λ e. omega arith)) (none-outside low high given x) (outside-only given low high x)
-
-up-to : (high given x : ℕ) → Between 1 10 given → Part
-up-to high given x b =
-    one given _ b (λ z. outside-none 0 high given x (λ e. omega arith) z .most) (λ (le : x ≤ high). none-outside 0 high given x (omega arith)) (outside-only given 0 high x)
-
-has-room : (needed lent : ℕ) → Part
-has-room needed lent = one 3 _ (omega arith) (room-none needed lent) (none-room needed lent) (room-only needed lent)
+use Rattle.table.specs.Table.{unless, Judged, lineChecks, stopNumber, LineTable, linkChecks, mapChecks, openChecks, benchChecks, turnChecks, finishedChecks, areaChecks, routeChecks, Table}
+use Rattle.table.proofs.Judged.{Numbers, Part, next, both, one, in-range, up-to, has-room, so}
+use Rattle.table.proofs.Numbers.{where-only, shape-only, done-only, fault-done, done-fault, known-only, trails-only}
 
 -- ---- the map
 
@@ -121,23 +50,23 @@ module _ (map : List ℕ) (n m : ℕ) where
 
   link-part : ℕ → Part
   link-part k =
-      both (both (in-range 1 n 4 (tail map k) (omega arith)) (in-range 1 n 4 (head map k) (omega arith))) (in-range 1 65535 5 (cost map k) (omega arith))
+      both (both (in-range 1 n 4 (maps.tail map k) (omega arith)) (in-range 1 n 4 (maps.head map k) (omega arith))) (in-range 1 65535 5 (maps.cost map k) (omega arith))
 
-  links-judged : (k more : ℕ) → Judged (linkChecks map n m k more) (firstFrom (linkFault n map) k more)
-  unfolding linkChecks firstFrom linkFault endsFault link-part in-range one both
+  links-judged : (k more : ℕ) → Judged (linkChecks map n m k more) (firstFrom (maps.linkFault n map) k more)
+  unfolding linkChecks firstFrom maps.linkFault maps.endsFault link-part in-range one both
   links-judged k zero = refl
-  links-judged k (suc more) = next (link-part k) (linkChecks map n m (suc k) more) (firstFrom (linkFault n map) (suc k) more) (λ _. links-judged (suc k) more)
+  links-judged k (suc more) = next (link-part k) (linkChecks map n m (suc k) more) (firstFrom (maps.linkFault n map) (suc k) more) (λ _. links-judged (suc k) more)
 
   links-part : Part
   links-part =
-      record { checks = linkChecks map n m 1 m; number = firstFrom (linkFault n map) 1 m; numbers = link-numbers (omega arith) (omega arith) 1 m; judged = links-judged 1 m }
+      record { checks = linkChecks map n m 1 m; number = firstFrom (maps.linkFault n map) 1 m; numbers = link-numbers (omega arith) (omega arith) 1 m; judged = links-judged 1 m }
 
-  map-judged : Judged (mapChecks map n m) (mapFault n m map)
-  unfolding mapChecks mapFault countsFault in-range up-to has-room one both links-part
+  map-judged : Judged (mapChecks map n m) (maps.mapFault n m map)
+  unfolding mapChecks maps.mapFault maps.countsFault in-range up-to has-room one both links-part
   map-judged = both (both (in-range 1 4096 2 n (omega arith)) (up-to 16384 2 m (omega arith))) (both (has-room (3 * m) (length map)) links-part) .judged
 
   map-part : Part
-  map-part = record { checks = mapChecks map n m; number = mapFault n m map; numbers = map-numbers (omega arith) (omega arith); judged = map-judged }
+  map-part = record { checks = mapChecks map n m; number = maps.mapFault n m map; numbers = map-numbers (omega arith) (omega arith); judged = map-judged }
 
   -- ---- opening
 
@@ -256,3 +185,44 @@ module _ (map : List ℕ) (n m : ℕ) where
 
   pub table : Table map n m
   table = record { fault = map-judged; opening = open-judged; turn = turn-judged; area = area-judged; route = route-judged }
+
+-- ---- a line that is read
+
+first-number : (a b : Fault) → firstOf a b .number ≡ orElse (a .number) (b .number)
+unfolding firstOf orElse
+first-number a b = go (eqb (a .number) 0)
+  where
+    go : (t : Bool) → cond t b a .number ≡ cond t (b .number) (a .number)
+    go true = refl
+    go false = refl
+
+step-number : (fault : Fault) (st : State) → stopNumber (stepBy fault st) ≡ fault .number
+unfolding stepBy
+step-number fault st = go (eqb (fault .number) 0) refl
+  where
+    go : (t : Bool) → eqb (fault .number) 0 ≡ t → stopNumber (cond t (Go st) (Stop fault)) ≡ fault .number
+    go true e = sym (eqb-true _ _ e)
+    go false e = refl
+
+-- 1 before the others
+due : (t : Bool) (fault : Fault) (st : State) → stopNumber (cond t (stepBy fault st) (Stop (faultAt 1 0))) ≡ orElse (cond t 0 1) (fault .number)
+due true fault st = step-number fault st ∙ sym (orElse-second 0 _ refl)
+due false fault st = sym (orElse-first 1 _ (λ e. omega arith))
+
+pub line-table : LineTable
+unfolding lineChecks taken sizeStep linkStep sizeFault linkFault so in-range up-to has-room one both
+line-table room st Comment = refl
+line-table room st (Size n m) =
+    rw (due (eqb (st .n) 0) (sizeFault room n m) (stateOf (n .value) (m .value) 0))
+    (simp first-number
+    (both (so 1 (eqb (st .n) 0) (omega arith) (eqb-true _ _) (eqb-false _ _))
+    (both (in-range 1 4096 2 (n .value) (omega arith)) (both (up-to 16384 2 (m .value) (omega arith)) (has-room (3 * m .value) room)))
+    .judged))
+line-table room st (Link u v w) =
+    rw (due (ltb (st .k) (st .m)) (linkFault (st .n) u v w) (stateOf (st .n) (st .m) (st .k + 1)))
+    (simp first-number
+    (both (so 1 (ltb (st .k) (st .m)) (omega arith) (ltb-true _ _) (λ e (lt : st .k < st .m). omega (arith, ltb-false (st .k) (st .m) e)))
+    (both (in-range 1 (st .n) 4 (u .value) (omega arith)) (both (in-range 1 (st .n) 4 (v .value) (omega arith)) (in-range 1 65535 5 (w .value) (omega arith))))
+    .judged))
+line-table room st (Strange p) = inr (λ e. e, refl)
+line-table room st (Wrong p) = inr (λ e. e, refl)

@@ -1,11 +1,18 @@
--- "Numbers of refusal": the checks of every call on a map in the document's order, each with its number and what it asks. Assumes nothing.
+-- "Numbers of refusal": the checks of every call on a map, and of a line that is read, in the document's order, each with its number and what it
+-- asks. Assumes nothing.
 use mathlib.Core.Path.{_≡_}
 use mathlib.Core.Bool.{true}
 use mathlib.Core.Logic.{_≢_, _⊎_}
 use mathlib.Core.List.{List, [], _∷_, _++_}
-use Prim.Native.Nat.{ℕ, zero, suc, _*_, _-_, _≤_}
+use Prim.Native.Nat.{ℕ, zero, suc, _*_, _-_, _≤_, _<_}
 use lib.ListN.{length, getD}
 use Rattle.limits.specs.Limits.{Between}
+use Rattle.line.specs.declared.Line.{Line}
+use Rattle.line.specs.declared.Line.the-variants.{Comment, Size, Link, Strange, Wrong}
+use Rattle.step.specs.Step.{taken}
+use Rattle.step.specs.declared.State.{State}
+use Rattle.step.specs.declared.Step.{Step}
+use Rattle.step.specs.declared.Step.the-variants.{Go, Stop}
 use Rattle.map.specs.Map.{tail, head, cost, mapFault}
 use Rattle.map.specs.declared.Side.{Side}
 use Rattle.half.specs.Half.{unknown, ceiling}
@@ -25,6 +32,32 @@ pub data Check : Type 1 where
 abbrev pub Judged : List Check → ℕ → Type 0
 Judged [] number = number ≡ 0
 Judged (unless given asked ∷ rest) number = (asked × Judged rest number) ⊎ ((asked → ⊥) × (number ≡ given))
+
+-- ---- the reader: "line by line the first fault; within a line 1 (an `a` beyond M included), 2, 3, 4 for U then V, 5"
+
+-- a line as it is read in a state, for a map that has room for so many words; what is no line of the layout is never so
+unfoldable pub lineChecks : ℕ → State → Line → List Check
+lineChecks room st Comment = []
+lineChecks room st (Size n m) =
+    unless 1 (st .n ≡ 0) ∷ unless 2 (Between 1 4096 (n .value)) ∷ unless 2 (m .value ≤ 16384) ∷ unless 3 (3 * m .value ≤ room) ∷ []
+lineChecks room st (Link u v w) =
+    unless 1 (st .k < st .m)
+    ∷ unless 4 (Between 1 (st .n) (u .value))
+    ∷ unless 4 (Between 1 (st .n) (v .value))
+    ∷ unless 5 (Between 1 65535 (w .value))
+    ∷ []
+lineChecks room st (Strange p) = unless 1 ⊥ ∷ []
+lineChecks room st (Wrong p) = unless 1 ⊥ ∷ []
+
+-- the number with which a line stops, 0 where it goes on
+abbrev pub stopNumber : Step → ℕ
+stopNumber (Go st) = 0
+stopNumber (Stop fault) = fault .number
+
+abbrev pub LineTable : Type 0
+LineTable = (room : ℕ) (st : State) (l : Line) → Judged (lineChecks room st l) (stopNumber (taken room st l))
+
+-- ---- the calls on a map
 
 module _ (map : List ℕ) (n m : ℕ) where
   -- so many links, from link k on
