@@ -13,7 +13,7 @@ use Rattle.map.specs.declared.Side.the-variants.{Forward, Backward}
 use Rattle.map.proofs.Laws.{fault-valid}
 use Rattle.text.specs.Text.{readText, mapAfter}
 use Rattle.shape.specs.Bench.{benchWords}
-use Rattle.shape.proofs.Shaped.{opened-shaped}
+use Rattle.shaped.proofs.Shaped.{opened-shaped}
 use Rattle.area.specs.Finished.{areaFault}
 use Rattle.area.proofs.Areas.{area-filled}
 use Rattle.bench.specs.Calls.{saidOpening, orderFault, openFault, openSaid, openWords, turnFault, turnWords}
@@ -25,13 +25,13 @@ use Rattle.bench.specs.declared.Filling.the-variants as fillings
 use Rattle.claims.specs.Mixture as mixture
 use Rattle.claims.specs.Mixture.{turnsIn, turnsOf}
 use Rattle.claims.specs.Calls.{sidesOf, turnsWords, mixtureWords}
-use Rattle.claims.proofs.Calls.{mixture-goes}
+use Rattle.claims.proofs.Calls.{turn-fine, mixture-goes}
 use Rattle.claims.proofs.Turns.{turns-low}
 use Rattle.booklet.specs.Survey.{openingNumber, fillingNumber, alternate, alternated, finishedWords, areaNumber, finishedMask, areaTold, said, surveySaid, surveyBench, surveyMask, Holds}
 use Rattle.booklet.specs.declared.Order.{Order}
 use Rattle.booklet.specs.declared.Outcome.{Outcome}
 use Rattle.booklet.specs.declared.Outcome.the-variants.{Area, Refused}
-use Rattle.booklet.proofs.Turns.{judged-fine, judged-number, turn-fine}
+use Rattle.booklet.proofs.Turns.{judged-fine, judged-number}
 
 -- ---- the number of an answer that is a refusal
 

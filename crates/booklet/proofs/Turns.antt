@@ -8,38 +8,23 @@ use native.Mathlib.Decide.{ℕ-discrete}
 use native.Mathlib.Omega.{arith}
 use borrow.Author.Tests.{eqb-true, eqb-false}
 use lib.Dec.{eqb}
-use lib.ListN.{length, length-append}
 use Rattle.limits.specs.Said.{Said, told, refused}
 use Rattle.limits.proofs.Said.{told-refused, refused-told}
 use Rattle.limits.proofs.Cases.{cond-then, cond-else}
-use Rattle.limits.proofs.Laws.{none-orElse, none-room}
-use Rattle.map.specs.Map.{Valid}
 use Rattle.map.specs.Walk.{other}
 use Rattle.map.specs.declared.Side.{Side}
 use Rattle.map.specs.declared.Side.the-variants.{Forward, Backward}
-use Rattle.map.proofs.Laws.{valid-fault}
-use Rattle.shape.specs.Bench.{Bench, benchWords, words, parse, WellShaped}
-use Rattle.shape.specs.Rules.{done, turnTold}
-use Rattle.shape.proofs.Rounds.{Room, shaped-room, words-parse, parse-words}
-use Rattle.shape.proofs.Shaped.{shaped-fault}
+use Rattle.shape.specs.Bench.{words, parse}
+use Rattle.shape.specs.Rules.{done, turned, turnTold}
+use Rattle.shape.proofs.Rounds.{words-parse}
 use Rattle.shape.proofs.Turns.{turned-done, turned-shaped}
+use Rattle.shaped.proofs.Lent.{Ready, lent-ready}
 use Rattle.bench.specs.Calls.{judged, saidTurn, turnFault, turnSaid, turnWords}
-use Rattle.bench.proofs.Laws.{turn-ready, turn-refused, turn-goes}
+use Rattle.bench.proofs.Laws.{turn-refused, turn-goes}
 use Rattle.bench.specs.declared.Turn.{Turn}
 use Rattle.bench.specs.declared.Turn.the-variants.{Settled, Done, Refused}
+use Rattle.claims.proofs.Calls.{turn-fine}
 use Rattle.booklet.specs.Survey.{turnNumber, alternate, alternated}
-
--- ---- a turn on a well-shaped bench is not refused
-
-words-long : {n : ℕ} {b : Bench} → Room n b → benchWords n ≤ length (words b)
-unfolding words
-words-long {n} {b} r = simp length-append (omega (arith, r .halves Forward, r .halves Backward, r .marks))
-
-pub turn-fine : {map : List ℕ} {n m : ℕ} {b : Bench} → Valid n m map → WellShaped n m b → turnFault map n m (words b) ≡ 0
-unfolding turnFault
-turn-fine {map} {n} {m} {b} valid w =
-    none-orElse _ _ (valid-fault n m map valid)
-    (none-orElse _ _ (none-room _ _ (words-long (shaped-room w))) (rw (parse-words n b (shaped-room w)) (shaped-fault w)))
 
 -- ---- what an answer says of its number of refusal
 
@@ -64,19 +49,18 @@ module _ (map : List ℕ) (n m : ℕ) (s : Side) (x : List ℕ) where
   turn-number Done e = sym (judged-fine e .0)
   turn-number (Refused r) e = sym (judged-number _ e .0)
 
-  -- the next turn is refused exactly as this one
-  turn-keeps : turnFault map n m (turnWords s map n m x) ≡ turnFault map n m x
-  turn-keeps = go (ℕ-discrete (turnFault map n m x) 0)
-    where
-      go : Dec (turnFault map n m x ≡ 0) → turnFault map n m (turnWords s map n m x) ≡ turnFault map n m x
-      go (yes z) =
-          let r = turn-ready map n m x refl z in
-          let e = turn-goes map n m x refl s z refl refl .1 in
-          ap (turnFault map n m) (sym e) ∙ turn-fine (r .valid) (turned-shaped (r .valid) (r .shaped) s) ∙ sym z
-      go (no z) = ap (turnFault map n m) (sym (turn-refused map n m x refl s z .1))
+  -- what a turn has that is not refused, and what it leaves
+  ready : turnFault map n m x ≡ 0 → Ready map n m x
+  unfolding turnFault
+  ready z = lent-ready map n m 0 x z .1
+
+  turn-leaves : turnFault map n m x ≡ 0 → turnWords s map n m x ≡ words (turned s map (parse n x))
+  unfolding turnFault
+  turn-leaves z = sym (turn-goes map n m x refl s z refl refl .1)
 
   -- a refused turn, and one of a half that is done, leave the bench
   refused-stays : (turnFault map n m x ≡ 0 → ⊥) → turnWords s map n m x ≡ x
+  unfolding turnFault
   refused-stays z = sym (turn-refused map n m x refl s z .1)
 
   done-stays : told [] ≡ turnSaid s map n m x → turnWords s map n m x ≡ x
@@ -84,7 +68,15 @@ module _ (map : List ℕ) (n m : ℕ) (s : Side) (x : List ℕ) where
   done-stays e =
       let (z, a) = judged-fine e in
       let d = cond-then (done s (parse n x)) (told-same a) not-nothing .0 in
-      sym (turn-goes map n m x refl s z refl refl .1) ∙ ap words (turned-done s map (parse n x) d) ∙ words-parse n x (turn-ready map n m x refl z .room)
+      turn-leaves z ∙ ap words (turned-done s map (parse n x) d) ∙ words-parse n x (ready z .room)
+
+  -- the next turn is refused exactly as this one
+  turn-keeps : turnFault map n m (turnWords s map n m x) ≡ turnFault map n m x
+  turn-keeps = go (ℕ-discrete (turnFault map n m x) 0)
+    where
+      go : Dec (turnFault map n m x ≡ 0) → turnFault map n m (turnWords s map n m x) ≡ turnFault map n m x
+      go (yes z) = let r = ready z in ap (turnFault map n m) (turn-leaves z) ∙ turn-fine (r .valid) (turned-shaped (r .valid) (r .shaped) s) ∙ sym z
+      go (no z) = ap (turnFault map n m) (refused-stays z)
 
   -- neither settled nor refused: the half is done
   idle-stays : (t : Turn) → saidTurn t ≡ turnSaid s map n m x → ((v d : ℕ) → t ≡ Settled v d → ⊥) → turnNumber t ≡ 0 → turnWords s map n m x ≡ x

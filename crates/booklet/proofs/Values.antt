@@ -4,8 +4,8 @@ use mathlib.Core.List.{List}
 use Prim.Native.Nat.{ℕ}
 use borrow.Author.Tests.{eq-eqb, ne-eqb}
 use lib.ListN.{length}
-use Rattle.line.specs.Number.{numberAt}
-use Rattle.line.specs.declared.Number.the-variants as numbers
+use Rattle.number.specs.Number.{numberAt}
+use Rattle.number.specs.declared.Number.the-variants as numbers
 use Rattle.booklet.specs.Argument.{argumentOf}
 use Rattle.booklet.specs.declared.Argument.the-variants.{Value, Bad}
 

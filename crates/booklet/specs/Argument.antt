@@ -4,7 +4,7 @@ use mathlib.Core.List.{List}
 use Prim.Native.Nat.{ℕ}
 use lib.Dec.{eqb}
 use lib.ListN.{length}
-use Rattle.line.specs.Number.{numberAt}
+use Rattle.number.specs.Number.{numberAt}
 use Rattle.line.specs.Line.{numberThen}
 use Rattle.booklet.specs.declared.Argument.{Argument}
 use Rattle.booklet.specs.declared.Argument.the-variants.{Value, Bad}

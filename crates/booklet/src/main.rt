@@ -17,8 +17,8 @@ use bench::Opening;
 use bench::Turn;
 use libc::STDIN_FILENO;
 use libc::STDOUT_FILENO;
-use line::Number;
 use map::Side;
+use number::Number;
 use text::Reading;
 
 // The bytes of a text, the words of a map and the crossings of a bench that there is room for.
@@ -55,7 +55,7 @@ enum Arguments {
 fn value_of(word: &[u8]) -> Argument
     ensures { λ r. ⌜ r ≡ argumentOf (now (word .entry)) ⌝ }
 {
-    let got = line::number_at(word, 0);
+    let got = number::number_at(word, 0);
     match got {
         Number::Bad(_) => Argument::Bad,
         Number::Good(v, next) => {
@@ -270,8 +270,8 @@ fn sum_of(bench: &[u32], n: usize, v: usize) -> u64
     requires { ⌜ (n ≤ 4096) × Between 1 n v × (benchWords n ≤ length (now bench)) ⌝ }
     ensures { λ r. ⌜ r ≡ dist (halfOf Forward (parse n (now (bench .entry)))) v + dist (halfOf Backward (parse n (now (bench .entry)))) v ⌝ }
 {
-    let from = done::distance(bench, n, Side::Forward, v) as u64;
-    let to = done::distance(bench, n, Side::Backward, v) as u64;
+    let from = rules::distance(bench, n, Side::Forward, v) as u64;
+    let to = rules::distance(bench, n, Side::Backward, v) as u64;
     from + to
 }
 
