@@ -1,6 +1,5 @@
 -- From which number to which the calls refuse. Assumes nothing.
-use mathlib.Core.Path.{_≡_}
-use mathlib.Core.Logic.{_≢_, dite}
+use mathlib.Core.Logic.{_≢_}
 use mathlib.Core.List.{List, [], _∷_, _++_}
 use Prim.Native.Nat.{ℕ, _≤_}
 use native.Mathlib.Omega.{arith}
@@ -13,7 +12,6 @@ use Rattle.limits.proofs.Cases.{cond-cases}
 use Rattle.map.specs.Map.{mapFault}
 use Rattle.map.specs.declared.Side.{Side}
 use Rattle.half.specs.Half.{ceiling}
-use Rattle.shape.specs.Bench.{parse}
 use Rattle.shape.specs.Rules.{turnTold}
 use Rattle.area.specs.Finished.{areaFault, routeFault}
 use Rattle.bench.specs.Calls.{judged, openFault, openSaid, turnFault, turnSaid}
