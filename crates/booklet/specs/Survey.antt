@@ -104,7 +104,3 @@ module _ (text map : List ℕ) (order : Order) (x mask : List ℕ) where
 abbrev pub Holds : Outcome → List ℕ → List ℕ → Type 0
 Holds (Area n) x mask = (n ≤ 4096) × (benchWords n ≤ length x) × (n ≤ length mask)
 Holds (Refused number line) x mask = Unit
-
--- `l` in BL, else `b`
-abbrev pub letterOf : ℕ → ℕ
-letterOf byte = cond (eqb byte 2) 108 98

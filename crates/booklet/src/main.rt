@@ -1,22 +1,15 @@
 // The program: an order as four arguments, and a road map's text on standard input. It prints the optimum and the bypass area, or the
 // first refusal alone.
 ghost use mathlib.Core.Path.{_≡_};
-ghost use Prim.Native.Nat.{_+_, _≤_};
-ghost use lib.ListN.{length};
-ghost use Rattle.limits.specs.Limits.{Between};
 ghost use Rattle.text.specs.Text.{mapAfter};
 ghost use Rattle.map.specs.Walk.{other as otherOf};
-ghost use Rattle.map.specs.declared.Side.the-variants.{Forward, Backward};
-ghost use Rattle.half.specs.Half.{dist};
-ghost use Rattle.shape.specs.Bench.{half as halfOf, benchWords, parse};
 ghost use Rattle.bench.specs.Calls.{saidTurn, turnFault, turnSaid, turnWords};
 ghost use Rattle.booklet.specs.Argument.{argumentOf};
-ghost use Rattle.booklet.specs.Survey.{openingNumber, turnNumber, fillingNumber, alternated, finishedWords, areaNumber, finishedMask, areaTold, said, surveySaid, surveyBench, surveyMask, Holds, letterOf};
+ghost use Rattle.booklet.specs.Survey.{openingNumber, turnNumber, fillingNumber, alternated, finishedWords, areaNumber, finishedMask, areaTold, said, surveySaid, surveyBench, surveyMask, Holds};
 use bench::Filling;
 use bench::Opening;
 use bench::Turn;
 use libc::STDIN_FILENO;
-use libc::STDOUT_FILENO;
 use map::Side;
 use number::Number;
 use text::Reading;
@@ -99,27 +92,6 @@ fn read_arguments() -> Arguments {
     })
 }
 
-// ---- printing
-
-fn print_field(x: u64) {
-    io::write_all(STDOUT_FILENO, b" ");
-    io::print_decimal(STDOUT_FILENO, x);
-}
-
-// A letter and two numbers.
-fn print_line(letter: u8, a: u64, b: u64) {
-    io::write_all(STDOUT_FILENO, &[letter]);
-    print_field(a);
-    print_field(b);
-    io::write_all(STDOUT_FILENO, b"\n");
-}
-
-fn print_optimum(optimum: u32) {
-    io::write_all(STDOUT_FILENO, b"o");
-    print_field(optimum as u64);
-    io::write_all(STDOUT_FILENO, b"\n");
-}
-
 // ---- the survey: from the text to the area
 
 // How a survey ends: with the area of a map of n crossings, or with a number of refusal and its line.
@@ -132,7 +104,7 @@ enum Outcome {
 fn refuse(number: u32, line: u32) -> Outcome
     ensures { λ r. ⌜ r ≡ Outcome.Refused number line ⌝ }
 {
-    print_line(b'r', number as u64, line as u64);
+    listing::print_line(b'r', number as u64, line as u64);
     Outcome::Refused(number, line)
 }
 
@@ -256,46 +228,12 @@ fn survey(order: Order, text: &[u8], map: &mut [u32], bench: &mut [u32], mask: &
     }
 }
 
-// ---- the list of the area
-
-// `l` in BL, `b` in B only.
-fn letter_of(byte: u8) -> u8
-    ensures { λ r. ⌜ r ≡ letterOf byte ⌝ }
-{
-    if byte == 2 { b'l' } else { b'b' }
-}
-
-// The sum of the two distances of v.
-fn sum_of(bench: &[u32], n: usize, v: usize) -> u64
-    requires { ⌜ (n ≤ 4096) × Between 1 n v × (benchWords n ≤ length (now bench)) ⌝ }
-    ensures { λ r. ⌜ r ≡ dist (halfOf Forward (parse n (now (bench .entry)))) v + dist (halfOf Backward (parse n (now (bench .entry)))) v ⌝ }
-{
-    let from = rules::distance(bench, n, Side::Forward, v) as u64;
-    let to = rules::distance(bench, n, Side::Backward, v) as u64;
-    from + to
-}
-
-// The optimum, then each crossing of B, rising.
-fn print_area(bench: &[u32], n: usize, mask: &[u8])
-    requires { ⌜ (n ≤ 4096) × (benchWords n ≤ length (now bench)) × (n ≤ length (now mask)) ⌝ }
-{
-    print_optimum(bench[5]);
-    let mut v: usize = 0;
-    while v < n {
-        let byte = mask[v];
-        v += 1;
-        if byte != 0 {
-            print_line(letter_of(byte), v as u64, sum_of(bench, n, v));
-        }
-    }
-}
-
 fn report(order: Order, text: &[u8], map: &mut [u32], bench: &mut [u32], mask: &mut [u8]) {
     let outcome = survey(order, text, map, bench, mask);
     let Outcome::Area(n) = outcome else {
         return;
     };
-    print_area(bench, n as usize, mask);
+    listing::print_area(bench, n as usize, mask);
 }
 
 // ---- the program

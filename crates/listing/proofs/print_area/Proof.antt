@@ -1,8 +1,8 @@
--- `booklet::print_area` is safe and ends: each crossing is listed from its own words. Assumes nothing.
+-- `listing::print_area` is safe and ends: each crossing is listed from its own words. Assumes nothing.
 use Prim.Native.Nat.{_≤_, _-_}
 use borrow.Author.Needs.{needs}
-use Rattle.booklet.proofs.print_area.Statement.{statement}
-use Rattle.booklet.proofs.print_area.Tie as tie
+use Rattle.listing.proofs.print_area.Statement.{statement}
+use Rattle.listing.proofs.print_area.Tie as tie
 
 abbrev Inv-loop : tie.InvT-loop
 Inv-loop bench n mask v₀ v = v ≤ n

@@ -1,7 +1,7 @@
--- `booklet::letter_of` meets its contract. Assumes nothing.
+-- `listing::letter_of` meets its contract. Assumes nothing.
 use borrow.Author.Tests.{eq-eqb, ne-eqb}
-use Rattle.booklet.proofs.letter_of.Statement.{statement}
-use Rattle.booklet.proofs.letter_of.Tie as tie
+use Rattle.listing.proofs.letter_of.Statement.{statement}
+use Rattle.listing.proofs.letter_of.Tie as tie
 
 returns : tie.Need-returns
 returns c = rw (eq-eqb _ 2 (c .if1 .taken))
