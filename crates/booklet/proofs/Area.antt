@@ -84,7 +84,7 @@ module _ (map : List ℕ) (n m : ℕ) (order : Order) (x : List ℕ) where
   -- ---- opened
 
   module _ (e : told [] ≡ opening) where
-    in-order : mixture.Order map n m (order .start) (order .target) (order .stretch)
+    pub in-order : mixture.Order map n m (order .start) (order .target) (order .stretch)
     unfolding openSaid openFault orderFault
     in-order =
         let a = orElse-none _ _ (judged-fine e .0) in

@@ -1,3 +1,4 @@
 pub mod Values
 pub mod Turns
 pub mod Area
+pub mod Listed
