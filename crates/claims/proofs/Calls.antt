@@ -59,7 +59,7 @@ module _ {map : List ℕ} {n m : ℕ} (valid : Valid n m map) where
 -- ---- an opening that is not refused
 
 module _ (map : List ℕ) (n m start target stretch : ℕ) (x : List ℕ) (e : openSaid map n m start target stretch x ≡ told []) where
-  opened-order : Order map n m start target stretch
+  pub opened-order : Order map n m start target stretch
   unfolding openSaid judged openFault orderFault
   opened-order =
       let z = eqb-true _ 0 (cond-then (eqb (openFault map n m start target stretch x) 0) e refused-told .0) in
