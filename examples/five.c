@@ -56,8 +56,8 @@ static int take_turns(uint32_t n, uint32_t m) {
 
 /* The optimum, and the crossings of the area with the cost of the way through each. */
 static void print_area(uint32_t n) {
-    const uint32_t *from = bench + 6, *to = bench + 6 + 3 * n;
-    printf("o %u\n", (unsigned)bench[5]);
+    const uint32_t *from = bench + SANKAYOP_FROM_AT, *to = bench + SANKAYOP_TO_AT(n);
+    printf("o %u\n", (unsigned)bench[SANKAYOP_OPTIMUM_AT]);
     for (uint32_t i = 0; i < n; i++) {
         if (mask[i] > 0) {
             printf("%c %u %u\n", mask[i] == 2 ? 'l' : 'b', (unsigned)i + 1, (unsigned)(from[i] + to[i]));

@@ -37,6 +37,16 @@
 extern "C" {
 #endif
 
+/*
+ * Where a bench for n crossings holds what a caller may want to read: the optimum; the distances of crossings 1 to n from
+ * the start, and to the target; their marks. An unknown optimum is SANKAYOP_UNKNOWN.
+ */
+#define SANKAYOP_OPTIMUM_AT 5
+#define SANKAYOP_FROM_AT 6
+#define SANKAYOP_TO_AT(n) (6 + 3 * (size_t)(n))
+#define SANKAYOP_MARKS_AT(n) (6 + 6 * (size_t)(n))
+#define SANKAYOP_UNKNOWN UINT32_C(4294967295)
+
 /* The words of a bench for n crossings, of a map of m links, and the most words of a route. */
 #define SANKAYOP_BENCH_WORDS(n) (6 + 7 * (size_t)(n))
 #define SANKAYOP_MAP_WORDS(m) (3 * (size_t)(m))

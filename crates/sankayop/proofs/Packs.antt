@@ -2,11 +2,10 @@
 use mathlib.Core.Path.{_≡_, refl, sym, ap, subst, _∙_}
 use mathlib.Core.Bool.{Bool, true, false, cond}
 use mathlib.Core.List.{List, [], _∷_}
-use Prim.Native.Nat.{ℕ, _≤_}
+use Prim.Native.Nat.{ℕ, _≤_, _<_}
 use native.Mathlib.Omega.{arith}
 use borrow.Author.Tests.{eqb-true}
 use lib.Dec.{eqb}
-use lib.ListN.{length}
 use Rattle.limits.specs.Said.{Said, told, refused}
 use Rattle.limits.proofs.Cases.{cond-cases}
 use Rattle.map.specs.declared.Side.{Side}
@@ -43,7 +42,7 @@ module _ {A : Type 0} (f : A → Said) {a b : A} (e : a ≡ b) where
 
 -- ---- the calls on a map and a bench
 
-judged-packs : (high fault : ℕ) (answer : Said) → high ≤ 10 → Numbered 2 high (judged fault answer) → (fault ≡ 0 → Packs answer) → Packs (judged fault answer)
+judged-packs : (high fault : ℕ) (answer : Said) → high < 256 → Numbered 2 high (judged fault answer) → (fault ≡ 0 → Packs answer) → Packs (judged fault answer)
 unfolding judged
 judged-packs high fault answer le numbers fits = go (eqb fault 0) refl numbers
   where

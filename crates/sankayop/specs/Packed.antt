@@ -1,7 +1,7 @@
 -- An answer in one 64-bit number: its number of refusal, 0 for none, and its two values, of which those that it does not have are 0.
 -- Assumes nothing.
 use mathlib.Core.List.{List}
-use Prim.Native.Nat.{ℕ, _+_, _*_, _≤_, _<_}
+use Prim.Native.Nat.{ℕ, _+_, _*_, _<_}
 use lib.ListN.{getD}
 use Rattle.limits.specs.Said.{Said, told, refused}
 
@@ -26,9 +26,9 @@ inOne number first second = number * 72057594037927936 + first * 268435456 + sec
 unfoldable pub packed : Said → ℕ
 packed s = inOne (number s) (first s) (second s)
 
--- what can be taken apart again: a number of refusal, and two values below 2^28
+-- what can be taken apart again: a number of refusal below 2^8, and two values below 2^28
 pub record Fits (number first second : ℕ) : Type 0 where
-  pub few : number ≤ 10
+  pub few : number < 256
   pub first-in : first < 268435456
   pub second-in : second < 268435456
 
