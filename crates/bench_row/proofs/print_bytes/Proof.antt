@@ -1,9 +1,9 @@
--- `bench_rows::print_bytes` is safe and ends. Assumes nothing.
+-- `bench_row::print_bytes` is safe and ends. Assumes nothing.
 use Prim.Native.Nat.{_-_}
 use lib.ListN.{length}
 use borrow.Author.Needs.{needs}
-use Rattle.bench_rows.proofs.print_bytes.Statement.{statement}
-use Rattle.bench_rows.proofs.print_bytes.Tie as tie
+use Rattle.bench_row.proofs.print_bytes.Statement.{statement}
+use Rattle.bench_row.proofs.print_bytes.Tie as tie
 
 abbrev Inv-loop : tie.InvT-loop
 Inv-loop bytes i₀ i = Unit {0}
