@@ -1,12 +1,13 @@
 -- The parts of a bench as the checks are lent them, and the ways that the checks of the area and the route go. Assumes nothing.
-use mathlib.Core.Path.{_≡_, refl, sym, ap, subst, _∙_}
-use mathlib.Core.Bool.{Bool, true, false, not}
+use mathlib.Core.Path.{_≡_, refl, sym, subst, _∙_}
+use mathlib.Core.Bool.{Bool, true, false, not, _&&_}
 use mathlib.Core.List.{List}
 use Prim.Native.Nat.{ℕ, _+_, _*_, _-_}
 use native.Mathlib.Omega.{arith}
 use borrow.Author.Tests.{eq-eqb, ne-eqb, not-true, not-false}
 use lib.ListN.{getD, take, drop}
 use Rattle.limits.specs.First.{orElse}
+use Rattle.limits.proofs.Cases.{and-both, cond-then}
 use Rattle.limits.proofs.Laws.{orElse-first, orElse-second, orElse-none}
 use Rattle.map.specs.declared.Side.{Side}
 use Rattle.map.specs.declared.Side.the-variants.{Forward, Backward}
@@ -30,6 +31,15 @@ module _ (n : ℕ) (x : List ℕ) (s : Side) {a e : ℕ} (p : a ≡ halfAt s n) 
   half-shaped {m} w = subst (ShapedHalf n m) (sym half-between) (w .halves s)
 
 -- ---- when a bench is finished
+
+module _ (b : Bench) where
+  pub fault-done : doneFault b ≡ 0 → (s : Side) → done s b ≡ true
+  unfolding doneFault
+  fault-done z = let p = and-both _ _ (cond-then (done Forward b && done Backward b) z (λ e. omega arith) .0) in λ s. elim s [ Forward ↦ p .0 | Backward ↦ p .1 ]
+
+  pub done-fault : ((s : Side) → done s b ≡ true) → doneFault b ≡ 0
+  unfolding doneFault
+  done-fault d = rw (d Forward, d Backward)
 
 module _ (b : Bench) {f : Bool} (p : f ≡ done Forward b) where
   pub not-done : not f ≡ true → 8 ≡ doneFault b

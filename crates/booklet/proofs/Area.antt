@@ -6,27 +6,26 @@ use native.Mathlib.Omega.{arith}
 use borrow.Author.Tests.{ne-eqb}
 use lib.ListN.{length, drop}
 use Rattle.limits.specs.Said.{Said, told, refused}
-use Rattle.limits.proofs.Laws.{orElse-first, orElse-second, orElse-none, outside-none}
+use Rattle.limits.proofs.Laws.{orElse-first, orElse-second}
 use Rattle.map.specs.Walk.{other}
 use Rattle.map.specs.declared.Side.{Side}
 use Rattle.map.specs.declared.Side.the-variants.{Forward, Backward}
-use Rattle.map.proofs.Laws.{fault-valid}
 use Rattle.text.specs.Text.{readText, mapAfter}
 use Rattle.shape.specs.Bench.{benchWords}
 use Rattle.shaped.proofs.Shaped.{opened-shaped}
 use Rattle.area.specs.Finished.{areaFault}
 use Rattle.area.proofs.Areas.{area-filled}
-use Rattle.bench.specs.Calls.{saidOpening, orderFault, openFault, openSaid, openWords, turnFault, turnWords}
+use Rattle.bench.specs.Calls.{saidOpening, openSaid, openWords, turnFault, turnWords}
 use Rattle.bench.specs.Areas.{saidFilling, areaSaid, areaMask}
 use Rattle.bench.specs.declared.Opening.{Opening}
 use Rattle.bench.specs.declared.Opening.the-variants as openings
 use Rattle.bench.specs.declared.Filling.{Filling}
 use Rattle.bench.specs.declared.Filling.the-variants as fillings
-use Rattle.claims.specs.Mixture as mixture
-use Rattle.claims.specs.Mixture.{turnsIn, turnsOf}
-use Rattle.claims.specs.Calls.{sidesOf, turnsWords, mixtureWords}
-use Rattle.claims.proofs.Calls.{turn-fine, mixture-goes}
-use Rattle.claims.proofs.Turns.{turns-low}
+use Rattle.demands.specs.Mixture as mixture
+use Rattle.demands.specs.Mixture.{turnsIn, turnsOf}
+use Rattle.demands.specs.Calls.{sidesOf, turnsWords, mixtureWords}
+use Rattle.demands.proofs.Calls.{opened-order, turn-fine, mixture-goes}
+use Rattle.demands.proofs.Turns.{turns-low}
 use Rattle.booklet.specs.Survey.{openingNumber, fillingNumber, alternate, alternated, finishedWords, areaNumber, finishedMask, areaTold, said, surveySaid, surveyBench, surveyMask, Holds}
 use Rattle.booklet.specs.declared.Order.{Order}
 use Rattle.booklet.specs.declared.Outcome.{Outcome}
@@ -85,17 +84,7 @@ module _ (map : List ℕ) (n m : ℕ) (order : Order) (x : List ℕ) where
 
   module _ (e : told [] ≡ opening) where
     pub in-order : mixture.Order map n m (order .start) (order .target) (order .stretch)
-    unfolding openSaid openFault orderFault
-    in-order =
-        let a = orElse-none _ _ (judged-fine e .0) in
-        let b = orElse-none _ _ (orElse-none _ _ (a .1) .0) in
-        let c = orElse-none _ _ (b .1) in
-        record {
-          valid = fault-valid n m map (a .0);
-          start-in = outside-none 1 n 4 (order .start) (λ q. omega arith) (b .0);
-          target-in = outside-none 1 n 4 (order .target) (λ q. omega arith) (c .0);
-          stretch-in = outside-none 1000 4000 5 (order .stretch) (λ q. omega arith) (c .1);
-        }
+    in-order = opened-order map n m (order .start) (order .target) (order .stretch) x (sym e)
 
     -- no turn is refused
     pub opened-turns : turnFault map n m after ≡ 0

@@ -20,16 +20,16 @@ use Rattle.shape.proofs.Rounds.{shaped-room, parse-words}
 use Rattle.area.specs.Finished.{unknownFault, finishedFault, areaFault}
 use Rattle.bench.specs.Areas.{areaMask}
 use Rattle.bench.specs.Calls.{judged, openFault, openSaid}
-use Rattle.claims.specs.Mixture as mixture
-use Rattle.claims.specs.Mixture.{turnsOf, benchAt}
-use Rattle.claims.specs.Demands.{NoWalk}
-use Rattle.claims.specs.Afterward.{Afterward}
-use Rattle.claims.proofs.Afterward.{afterward-at}
-use Rattle.claims.proofs.Demands.{sound-at}
-use Rattle.claims.proofs.Optimum.{Optimum, missing, present, optimum-cases, known-unknown}
-use Rattle.claims.proofs.Run.{done-stops}
-use Rattle.claims.proofs.Trails.{settled-both}
-use Rattle.claims.proofs.Turns.{at-turns}
+use Rattle.demands.specs.Mixture as mixture
+use Rattle.demands.specs.Mixture.{turnsOf, benchAt}
+use Rattle.demands.specs.Demands.{NoWalk}
+use Rattle.demands.specs.Afterward.{Afterward}
+use Rattle.demands.proofs.Afterward.{afterward-at}
+use Rattle.demands.proofs.Demands.{sound-at}
+use Rattle.demands.proofs.Optimum.{Optimum, missing, present, optimum-cases, known-unknown}
+use Rattle.demands.proofs.Run.{done-stops}
+use Rattle.demands.proofs.Trails.{settled-both}
+use Rattle.demands.proofs.Turns.{at-turns}
 use Rattle.booklet.specs.Listed.{Area, Listed, Unrouted, fromOf, toOf}
 use Rattle.booklet.specs.Survey.{finishedWords, finishedMask, areaNumber}
 use Rattle.booklet.specs.declared.Order.{Order}

@@ -23,7 +23,7 @@ use Rattle.bench.specs.Calls.{judged, saidTurn, turnFault, turnSaid, turnWords}
 use Rattle.bench.proofs.Laws.{turn-refused, turn-goes}
 use Rattle.bench.specs.declared.Turn.{Turn}
 use Rattle.bench.specs.declared.Turn.the-variants.{Settled, Done, Refused}
-use Rattle.claims.proofs.Calls.{turn-fine}
+use Rattle.demands.proofs.Calls.{turn-fine}
 use Rattle.booklet.specs.Survey.{turnNumber, alternate, alternated}
 
 -- ---- what an answer says of its number of refusal

@@ -10,8 +10,8 @@ use Rattle.map.specs.declared.Side.the-variants.{Forward, Backward}
 use Rattle.half.specs.Half.{ceiling, dist}
 use Rattle.shape.specs.Bench.{half, parse}
 use Rattle.bench.specs.Calls.{openFault}
-use Rattle.claims.specs.Demands.{InArea, NoWalk}
-use Rattle.claims.specs.Trails.{InLocal}
+use Rattle.demands.specs.Demands.{InArea, NoWalk}
+use Rattle.demands.specs.Trails.{InLocal}
 use Rattle.booklet.specs.Survey.{finishedWords, finishedMask, areaNumber}
 use Rattle.booklet.specs.declared.Order.{Order}
 

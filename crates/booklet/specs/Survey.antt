@@ -21,7 +21,7 @@ use Rattle.bench.specs.declared.Turn.{Turn}
 use Rattle.bench.specs.declared.Turn.the-variants as turns
 use Rattle.bench.specs.declared.Filling.{Filling}
 use Rattle.bench.specs.declared.Filling.the-variants as fillings
-use Rattle.claims.specs.Mixture.{turnsOf, benchAt}
+use Rattle.demands.specs.Mixture.{turnsOf, benchAt}
 use Rattle.booklet.specs.declared.Order.{Order}
 use Rattle.booklet.specs.declared.Outcome.{Outcome}
 use Rattle.booklet.specs.declared.Outcome.the-variants.{Area, Refused}

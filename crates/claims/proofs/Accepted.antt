@@ -3,12 +3,11 @@ use mathlib.Core.Path.{_≡_, sym, ap, subst}
 use mathlib.Core.List.{List, [], _∷_, _++_}
 use Prim.Native.Nat.{ℕ, zero, suc, _+_, _*_, _-_, _≤_}
 use native.Mathlib.Omega.{arith}
-use lib.ListN.{length, getD, drop, length-append}
-use Rattle.limits.specs.Limits.{Between}
+use lib.ListN.{length, drop, length-append}
 use Rattle.limits.specs.Said.{told}
 use Rattle.line.specs.Lines.{linesOf}
 use Rattle.text.specs.Text.{readText, wordsOf, mapAfter}
-use Rattle.text.specs.Good.{Links, done, skip, link, Layout, skipped, sized, Good}
+use Rattle.text.specs.Good.{Links, done, skip, link, Layout, skipped, sized}
 use Rattle.text.proofs.Good.{accepted-good}
 use Rattle.map.specs.Map.{tail, head, cost, Link, Valid, mapFault}
 use Rattle.map.proofs.Laws.{valid-fault}

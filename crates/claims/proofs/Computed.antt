@@ -17,8 +17,8 @@ use Rattle.bench.specs.Calls.{judged, orderFault, openFault, openSaid, openWord
 use Rattle.bench.specs.Areas.{areaSaid, areaMask}
 use Rattle.bench.specs.Routes.{routeSaid, routePart}
 use Rattle.nearest.specs.After.{settledIf, halfAfter}
-use Rattle.claims.specs.Mixture.{run, turnsIn, settledDist, optimumOf, benchAt, inReach, turnsOf}
-use Rattle.claims.specs.Calls.{turnsWords}
+use Rattle.demands.specs.Mixture.{run, turnsIn, settledDist, optimumOf, benchAt, inReach, turnsOf}
+use Rattle.demands.specs.Calls.{turnsWords}
 use Rattle.claims.specs.Five.{fiveAfter, crossingsFrom, areaShown, routeShown, shown, rowShows, rowSays, each, rows}
 
 unfoldable pub computed : Unit {0}

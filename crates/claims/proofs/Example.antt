@@ -8,13 +8,13 @@ use Rattle.map.specs.declared.Side.the-variants.{Forward, Backward}
 use Rattle.shape.specs.Bench.{Bench, WellShaped}
 use Rattle.trail.specs.Trail.{Drive}
 use Rattle.route.specs.Area.{maskAt, routeOf}
-use Rattle.claims.specs.Demands.{InArea, left}
+use Rattle.demands.specs.Demands.{InArea, left}
 use Rattle.claims.specs.Five.{five}
-use Rattle.claims.specs.Trails.{InLocal, RouteThrough}
-use Rattle.claims.specs.Afterward.{areaNumber, Afterward}
+use Rattle.demands.specs.Trails.{InLocal, RouteThrough}
+use Rattle.demands.specs.Afterward.{areaNumber, Afterward}
 use Rattle.claims.proofs.Computed.{computed}
-use Rattle.claims.proofs.Demands.{sound}
-use Rattle.claims.proofs.Afterward.{mask-byte, part-route, afterward}
+use Rattle.demands.proofs.Demands.{sound}
+use Rattle.demands.proofs.Afterward.{mask-byte, part-route, afterward}
 use Rattle.claims.proofs.Orders.{turns, order-met, finished-met, route-met, lost-met, lost-finished, no-walk-met}
 
 -- ---- from 1 to 5 at stretch 1,200, five turns each

@@ -1,10 +1,4 @@
 pub mod Accepted
-pub mod Calls
-pub mod Optimum
-pub mod Turns
-pub mod Run
-pub mod Area
-pub mod Demands
 pub mod Computed
 pub mod Five
 pub mod Orders
@@ -12,7 +6,4 @@ pub mod Sharp
 pub mod Promises
 pub mod Contracts
 pub mod Worthless
-pub mod Refusals
-pub mod Trails
-pub mod Afterward
 pub mod Example

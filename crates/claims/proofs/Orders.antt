@@ -8,11 +8,11 @@ use Rattle.map.specs.Walk.{Least}
 use Rattle.map.specs.declared.Side.{Side}
 use Rattle.map.specs.declared.Side.the-variants.{Forward, Backward}
 use Rattle.map.proofs.Laws.{fault-valid}
-use Rattle.claims.specs.Mixture.{Order, turnsOf}
-use Rattle.claims.specs.Demands.{InArea, NoWalk, Finished, left}
+use Rattle.demands.specs.Mixture.{Order, turnsOf}
+use Rattle.demands.specs.Demands.{InArea, NoWalk, Finished, left}
 use Rattle.claims.specs.Five.{five}
 use Rattle.claims.proofs.Computed.{computed}
-use Rattle.claims.proofs.Demands.{demand-2}
+use Rattle.demands.proofs.Demands.{demand-2}
 
 -- five turns each, forward first
 abbrev pub turns : List Side

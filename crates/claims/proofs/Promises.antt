@@ -20,7 +20,7 @@ use Rattle.table.proofs.Ranges.{map-in, route-in, open-numbered, turn-numbered,
 use Rattle.sankayop.specs.Packed.{number, first, second, inOne, packed, Fits, Packs}
 use Rattle.sankayop.proofs.Packs.{parts-same, open-packs, turn-packs, area-packs, route-packs}
 use Rattle.sankayop.proofs.Reading.{read-packs}
-use Rattle.claims.specs.Calls.{mixtureWords}
+use Rattle.demands.specs.Calls.{mixtureWords}
 use Rattle.claims.specs.Promises.{Kept, Answered, KeptPacked, Promises}
 
 -- ---- the promises

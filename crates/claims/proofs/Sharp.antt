@@ -8,10 +8,9 @@ use lib.ListN.{replicate}
 use Rattle.limits.specs.Limits.{Between}
 use Rattle.map.specs.Walk.{Walk, stay, more, Least}
 use Rattle.map.specs.declared.Side.the-variants.{Forward, Backward}
-use Rattle.half.specs.Half.{dist, state}
-use Rattle.half.proofs.Rule1.{Before}
+use Rattle.half.specs.Half.{dist, state, Before}
 use Rattle.shape.specs.Bench.{Bench}
-use Rattle.claims.specs.Demands.{InArea, markOf, left, at, Demand2, Demand3}
+use Rattle.demands.specs.Demands.{InArea, markOf, left, at, Demand2, Demand3}
 use Rattle.claims.specs.Five.{five}
 use Rattle.claims.proofs.Computed.{computed}
 use Rattle.claims.proofs.Orders.{tie-met, area-met}

@@ -13,7 +13,7 @@ use Rattle.bench.specs.Areas.{areaMask}
 use Rattle.bench.specs.declared.Opening.the-variants as openings
 use Rattle.bench.specs.declared.Turn.the-variants as turns
 use Rattle.bench.proofs.Answers.{opening-same, turn-same}
-use Rattle.claims.specs.Mixture.{bySide}
+use Rattle.demands.specs.Mixture.{bySide}
 use Rattle.claims.specs.Five.{five}
 use Rattle.claims.specs.Worthless.{after, Worthless}
 use Rattle.claims.proofs.Computed.{computed}

@@ -13,7 +13,7 @@ use Rattle.shape.specs.Bench.{parse}
 use Rattle.bench.specs.Calls.{openWords, turnSaid}
 use Rattle.bench.specs.Areas.{areaSaid, areaMask}
 use Rattle.bench.specs.Routes.{routeSaid, routePart}
-use Rattle.claims.specs.Calls.{turnsWords}
+use Rattle.demands.specs.Calls.{turnsWords}
 
 -- the links 1 to 7
 abbrev pub five : List ℕ

@@ -23,7 +23,7 @@ use Rattle.bench.specs.declared.Opening.{Opening}
 use Rattle.bench.specs.declared.Routing.{Routing}
 use Rattle.bench.specs.declared.Turn.{Turn}
 use Rattle.sankayop.specs.Packed.{inOne, packed, Fits}
-use Rattle.claims.specs.Calls.{mixtureWords}
+use Rattle.demands.specs.Calls.{mixtureWords}
 
 -- ---- the promises, as the contracts state them
 

@@ -11,7 +11,7 @@ use Rattle.bench.specs.declared.Opening.{Opening}
 use Rattle.bench.specs.declared.Opening.the-variants as openings
 use Rattle.bench.specs.declared.Turn.{Turn}
 use Rattle.bench.specs.declared.Turn.the-variants as turns
-use Rattle.claims.specs.Mixture.{bySide}
+use Rattle.demands.specs.Mixture.{bySide}
 use Rattle.claims.specs.Five.{five, fiveAfter}
 use Rattle.claims.specs.Promises.{Open, TakeTurn, FillMask}
 

@@ -1,7 +1,7 @@
 // Ties the demands to the public calls: a bench is opened, and turns are taken in the order of a schedule.
 ghost use mathlib.Core.Path.{_≡_};
 ghost use Rattle.bench.specs.Calls.{saidOpening, openSaid, turnWords};
-ghost use Rattle.claims.specs.Calls.{sideOf, turnsWords, mixtureWords};
+ghost use Rattle.demands.specs.Calls.{sideOf, turnsWords, mixtureWords};
 use bench::Opening;
 
 // A turn of the forward half for the byte 0, else of the backward half.

@@ -8,13 +8,8 @@ use native.Mathlib.Omega.{arith}
 use lib.Dec.{eqb, ltb}
 use borrow.Author.Tests.{eqb-true, eqb-false, ltb-true, ltb-false}
 use Rattle.limits.specs.Limits.{Between}
-use Rattle.half.specs.Half.{dist, state, nearer, nearestOpen}
+use Rattle.half.specs.Half.{dist, state, nearer, nearestOpen, Before}
 use Rattle.half.proofs.Folds.{upTo-keeps, last-or}
-
--- (d, u) comes before (e, v), or is it: less far, or as far with a number no higher
-pub record Before (d u e v : ℕ) : Type 0 where
-  pub le : d ≤ e
-  pub tie : d ≡ e → u ≤ v
 
 -- b is the first of the open crossings among 1 to k, by distance and number
 pub record First (n : ℕ) (h : List ℕ) (k b : ℕ) : Type 0 where

@@ -46,6 +46,12 @@ blank n = replicate n unknown ++ replicate (2 * n) 0
 unfoldable pub openHalf : ℕ → ℕ → List ℕ
 openHalf n root = put n (blank n) root (record { dist = 0; link = 0; state = 1 })
 
+-- ---- nearer, ties by number: (d, u) comes before (e, v), or is it
+
+pub record Before (d u e v : ℕ) : Type 0 where
+  pub le : d ≤ e
+  pub tie : d ≡ e → u ≤ v
+
 -- ---- rule 1: the open crossing of least distance, the lower number on a tie; 0 where none is open
 
 -- v, if it is open and none was found before or it is nearer than the one found, b

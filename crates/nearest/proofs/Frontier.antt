@@ -12,8 +12,7 @@ use Rattle.map.specs.Map.{Valid}
 use Rattle.map.specs.Walk.{Walk, stay, more, Least}
 use Rattle.map.specs.declared.Side.{Side}
 use Rattle.map.proofs.Walks.{near-in, far-in}
-use Rattle.half.specs.Half.{dist, state, entry}
-use Rattle.half.proofs.Rule1.{Before}
+use Rattle.half.specs.Half.{dist, state, entry, Before}
 use Rattle.nearest.proofs.Offers.{Held}
 use Rattle.nearest.proofs.Kept.{is-open, Source, at-root, by-link, Kept}
 

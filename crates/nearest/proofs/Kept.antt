@@ -11,12 +11,13 @@ use Rattle.map.specs.Map.{cost, Valid}
 use Rattle.map.specs.Walk.{near, far}
 use Rattle.map.specs.declared.Side.{Side}
 use Rattle.map.proofs.Walks.{near-in, far-in}
-use Rattle.half.specs.Half.{ceiling, unknown, dist, link, state, entry, openHalf, settledAt, settledCount, Shaped, unseen, seen, ShapedHalf}
+use Rattle.half.specs.Half.{ceiling, unknown, dist, link, state, entry, openHalf, settledAt, settledCount, Shaped, unseen, seen, ShapedHalf, Before}
 use Rattle.half.specs.declared.Entry.{Entry}
-use Rattle.half.proofs.Rule1.{Before, First}
+use Rattle.half.proofs.Rule1.{First}
 use Rattle.half.proofs.Opening.{open-root, open-other}
 use Rattle.half.proofs.Counts.{Settles, settledAt-settles, settles-count}
 use Rattle.half.proofs.Shape.{open-shaped, settledAt-shaped}
+use Rattle.nearest.specs.Tight.{Tight}
 use Rattle.nearest.proofs.Offers.{before-trans, Held, From, old, new, Step, settledAt-step}
 use Rattle.nearest.proofs.Counting.{two-unsettled}
 
@@ -30,13 +31,6 @@ is-open {n} {m} {v} {h} p cv s ne = go (p .entries v cv)
 
 before-cong : {d u e v f g : ℕ} → Before d u e v → f ≡ d → g ≡ e → Before f u g v
 before-cong p a b = record { le = omega arith; tie = λ t. p .tie (omega arith) }
-
--- link k comes to v from a settled crossing that is nearer by exactly the cost
-pub record Tight (side : Side) (map : List ℕ) (n m : ℕ) (h : List ℕ) (v k : ℕ) : Type 0 where
-  pub inside : Between 1 m k
-  pub comes : far side map k ≡ v
-  pub from : state n h (near side map k) ≡ 2
-  pub exact : dist h (near side map k) + cost map k ≡ dist h v
 
 module _ (side : Side) (map : List ℕ) (n m root : ℕ) where
   -- where what v holds comes from

@@ -16,11 +16,10 @@ use Rattle.map.specs.Map.{cost, Valid}
 use Rattle.map.specs.Walk.{near, far}
 use Rattle.map.specs.declared.Side.{Side}
 use Rattle.map.proofs.Walks.{far-in}
-use Rattle.half.specs.Half.{ceiling, dist, link, state, entry, offered, settledAt}
+use Rattle.half.specs.Half.{ceiling, dist, link, state, entry, offered, settledAt, Before}
 use Rattle.half.specs.declared.Entry.{Entry}
 use Rattle.half.proofs.Folds.{last-or}
 use Rattle.half.proofs.Entries.{Change, change-cases}
-use Rattle.half.proofs.Rule1.{Before}
 use Rattle.half.proofs.Rule2.{offered-settled, settledAt-keeps}
 
 pub before-trans : {d u e v f w : ℕ} → Before d u e v → Before e v f w → Before d u f w

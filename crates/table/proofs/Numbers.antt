@@ -1,6 +1,6 @@
 -- With which number a check refuses: each of its parts with the same one. Assumes nothing.
 use mathlib.Core.Path.{_≡_, refl}
-use mathlib.Core.Bool.{Bool, true, cond, _&&_}
+use mathlib.Core.Bool.{Bool, cond, _&&_}
 use mathlib.Core.Logic.{_≢_}
 use mathlib.Core.List.{List}
 use Prim.Native.Nat.{ℕ, zero, suc, _+_, _-_}
@@ -10,7 +10,7 @@ use lib.ListN.{getD}
 use Rattle.limits.specs.First.{orElse}
 use Rattle.limits.specs.Limits.{Between, numberOutside, roomFault}
 use Rattle.limits.specs.Said.{Said, told, refused}
-use Rattle.limits.proofs.Cases.{cond-both, cond-then, and-both}
+use Rattle.limits.proofs.Cases.{cond-both}
 use Rattle.limits.proofs.Laws.{orElse-both, outside-both, room-both}
 use Rattle.limits.proofs.Said.{told-refused}
 use Rattle.map.specs.Map.{cost}
@@ -127,14 +127,6 @@ module _ (b : Bench) where
   pub done-only : Only 8 (doneFault b)
   unfolding doneFault
   done-only = unless-only 8 (done Forward b && done Backward b)
-
-  pub fault-done : doneFault b ≡ 0 → (s : Side) → done s b ≡ true
-  unfolding doneFault
-  fault-done z = let p = and-both _ _ (cond-then (done Forward b && done Backward b) z (λ e. omega arith) .0) in λ s. elim s [ Forward ↦ p .0 | Backward ↦ p .1 ]
-
-  pub done-fault : ((s : Side) → done s b ≡ true) → doneFault b ≡ 0
-  unfolding doneFault
-  done-fault d = rw (d Forward, d Backward)
 
   pub known-only : Only 9 (unknownFault b)
   unfolding unknownFault

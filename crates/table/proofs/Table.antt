@@ -31,10 +31,11 @@ use Rattle.trail.specs.Sound.{SoundHalf, marksSound}
 use Rattle.trail.proofs.Soundness.{fault-sound, sound-fault, fault-marks, marks-fault}
 use Rattle.route.specs.Area.{routeOf}
 use Rattle.area.specs.Finished.{doneFault, unknownFault, ruleFault, trailsFault, finishedFault, areaFault, askedFault, routeFault}
+use Rattle.area.proofs.Laws.{fault-done, done-fault}
 use Rattle.bench.specs.Calls.{orderFault, openFault, turnFault}
 use Rattle.table.specs.Table.{unless, Judged, lineChecks, stopNumber, LineTable, linkChecks, mapChecks, openChecks, benchChecks, turnChecks, finishedChecks, areaChecks, routeChecks, Table}
 use Rattle.table.proofs.Judged.{Numbers, Part, next, both, one, in-range, up-to, has-room, so}
-use Rattle.table.proofs.Numbers.{where-only, shape-only, done-only, fault-done, done-fault, known-only, trails-only}
+use Rattle.table.proofs.Numbers.{where-only, shape-only, done-only, known-only, trails-only}
 
 -- ---- the map
 

@@ -1,1 +1,1 @@
-// The table of refusals, as definitions and laws over those of the calls; there is no code.
+// The table of refusals, as definitions and theorems over those of the calls; there is no code.

@@ -14,7 +14,7 @@ use Rattle.limits.proofs.Cases.{cond-then, cond-else}
 use Rattle.limits.proofs.Laws.{outside-none, none-outside, room-none, none-room}
 use Rattle.line.specs.Line.{lineOf, fieldOf}
 use Rattle.line.specs.Lines.{linesOf}
-use Rattle.line.specs.Good.{All, none, more, SizeLine}
+use Rattle.line.specs.Good.{All, more, SizeLine}
 use Rattle.line.proofs.Lines.{Cut, Whole, joined, lines-joined, lines-cut, lines-whole}
 use Rattle.line.proofs.Good.{read-comment, read-size, read-link, comment-read, size-read, link-read, size-place, second-place, third-place, comment-whole, size-whole, link-whole}
 use Rattle.line.specs.declared.Field.{Field}

@@ -1,6 +1,6 @@
 -- `claims::mixture` meets its contract: it is refused as opening is, else the words are those of the bench at the two counts. Assumes nothing.
 use Rattle.bench.specs.Calls.{saidOpening}
-use Rattle.claims.proofs.Calls.{mixture-goes, mixture-refused}
+use Rattle.demands.proofs.Calls.{mixture-goes, mixture-refused}
 use mathlib.Core.Path.{sym, ap, _∙_}
 use borrow.Author.Needs.{needs}
 use Rattle.claims.proofs.mixture.Statement.{statement}

@@ -1,7 +1,7 @@
 -- `claims::take_turn` meets its contract. Assumes nothing.
 use Rattle.map.specs.declared.Side.{Side}
 use Rattle.bench.specs.Calls.{turnWords}
-use Rattle.claims.proofs.Calls.{side-forward, side-backward}
+use Rattle.demands.proofs.Calls.{side-forward, side-backward}
 use mathlib.Core.Path.{ap, _∙_}
 use borrow.Author.Needs.{needs}
 use Rattle.claims.proofs.take_turn.Statement.{statement}

@@ -1,8 +1,8 @@
 -- `claims::take_turns` meets its contract. The loop's invariant: the turns of the whole schedule are those of the bytes from i on. Assumes nothing.
 use Prim.Native.Nat.{_≤_, _-_}
 use lib.ListN.{length, drop}
-use Rattle.claims.specs.Calls.{turnsWords}
-use Rattle.claims.proofs.Calls.{turns-more, turns-end}
+use Rattle.demands.specs.Calls.{turnsWords}
+use Rattle.demands.proofs.Calls.{turns-more, turns-end}
 use mathlib.Core.Path.{_≡_, refl, sym, _∙_}
 use borrow.Author.Needs.{needs}
 use Rattle.claims.proofs.take_turns.Statement.{statement}

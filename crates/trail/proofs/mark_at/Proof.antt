@@ -3,24 +3,16 @@ use Rattle.trail.proofs.Checks.{mark-by}
 use borrow.Author.Needs.{needs}
 use Rattle.trail.proofs.mark_at.Statement.{statement}
 use Rattle.trail.proofs.mark_at.Tie as tie
-use Rattle.trail.proofs.mark_at.Reads as reads
-use Rattle.trail.proofs.mark_at.Lts as lts
-use Rattle.half.proofs.load.Reads as load-reads
-use Rattle.shape.proofs.mark_of.Reads as mark-of-reads
 
--- src/lib.rt:113:9
 load-requires : tie.Need-load-requires
 load-requires c κs = search needs
 
--- src/lib.rt:114:9
 load-requires-2 : tie.Need-load-requires-2
 load-requires-2 c κs = search needs
 
--- src/lib.rt:115:5
 mark-of-requires : tie.Need-mark-of-requires
 mark-of-requires c κs = search needs
 
--- src/lib.rt:109:1
 returns : tie.Need-returns
 returns c = mark-by _ _ _ _ _ _ (c .before .before .load .ensures) (c .before .load2 .ensures) (c .mark-of .ensures)
 

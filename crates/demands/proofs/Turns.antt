@@ -19,8 +19,8 @@ use Rattle.half.proofs.Folds.{tally-le}
 use Rattle.shape.specs.Rules.{known, within, beyond}
 use Rattle.limits.proofs.Cases.{and-both, cond-cases, cond-else}
 use Rattle.nearest.proofs.Theorems.{settled-reached, settled-count}
-use Rattle.claims.specs.Mixture.{Order, inReach, turnsOf}
-use Rattle.claims.proofs.Optimum.{known-low, known-unknown, root, goal, after, next, best, best-is, Best, route, none, best-cases, Route, route-best, route-goal, root-in, settled-cost, walk-settled, settled-turn, next-cost, next-in, next-near}
+use Rattle.demands.specs.Mixture.{Order, inReach, turnsOf}
+use Rattle.demands.proofs.Optimum.{known-low, known-unknown, root, goal, after, next, best, best-is, Best, route, none, best-cases, Route, route-best, route-goal, root-in, settled-cost, walk-settled, settled-turn, next-cost, next-in, next-near}
 
 -- ---- tests and sums
 

@@ -15,8 +15,8 @@ use Rattle.area.specs.Finished.{areaFault, routeFault}
 use Rattle.bench.specs.Areas.{areaMask}
 use Rattle.bench.specs.Calls.{turnFault}
 use Rattle.bench.specs.Routes.{routePart}
-use Rattle.claims.specs.Demands.{InArea, Route, NoWalk, Finished}
-use Rattle.claims.specs.Trails.{InLocal, RouteThrough}
+use Rattle.demands.specs.Demands.{InArea, Route, NoWalk, Finished}
+use Rattle.demands.specs.Trails.{InLocal, RouteThrough}
 
 module _ (map : List ℕ) (n m start target stretch : ℕ) where
   -- the numbers of refusal of a call with this bench lent, 0 for none

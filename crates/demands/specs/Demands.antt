@@ -11,13 +11,12 @@ use Rattle.map.specs.Map.{cost}
 use Rattle.map.specs.Walk.{near, far, Walk, Least}
 use Rattle.map.specs.declared.Side.{Side}
 use Rattle.map.specs.declared.Side.the-variants.{Forward, Backward}
-use Rattle.half.specs.Half.{unknown, dist, link, state, entry, settledCount}
-use Rattle.half.proofs.Rule1.{Before}
+use Rattle.half.specs.Half.{unknown, dist, link, state, entry, settledCount, Before}
 use Rattle.shape.specs.Bench.{Bench, half, opened, WellShaped}
 use Rattle.shape.specs.Rules.{done, marksOf, turned}
 use Rattle.nearest.specs.After.{halfAfter}
-use Rattle.nearest.proofs.Kept.{Tight}
-use Rattle.claims.specs.Mixture.{bySide, run, turnsIn, settledDist, inReach, turnsOf, benchAt}
+use Rattle.nearest.specs.Tight.{Tight}
+use Rattle.demands.specs.Mixture.{bySide, run, turnsIn, settledDist, inReach, turnsOf, benchAt}
 
 -- v is in the bypass area B: "least cost from start plus least cost to target stays within the stretch times the optimum"
 pub record InArea (map : List ℕ) (m start target stretch v : ℕ) : Type 0 where

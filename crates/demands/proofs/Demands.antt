@@ -17,12 +17,12 @@ use Rattle.shape.specs.Rules.{done}
 use Rattle.shape.proofs.Marks.{marks-length, marks-at, marks-le}
 use Rattle.shape.proofs.Turns.{turned-done, turned-counts, done-stays}
 use Rattle.nearest.proofs.Theorems.{after-shaped, settled-nearest, root-settled, least-or-none, least-ceiling, link-tight, link-lowest}
-use Rattle.claims.specs.Mixture.{Order, bySide, turnsIn, benchAt}
-use Rattle.claims.specs.Demands.{InArea, NoWalk, Finished, markOf, left, Demand2, Sound, Demand3}
-use Rattle.claims.proofs.Optimum.{root, after, best-is, root-in, settled-cost, optimum, Optimum, missing, present, optimum-cases}
-use Rattle.claims.proofs.Turns.{stops, turns, reach-exactly, stops-some, turns-low, before-turns, at-turns, settled-turns}
-use Rattle.claims.proofs.Run.{bench, unmarked, done-stops, turn-more, run-opened}
-use Rattle.claims.proofs.Area.{finds, optimum-unknown, mark-sound, mark-complete, ends-in}
+use Rattle.demands.specs.Mixture.{Order, bySide, turnsIn, benchAt}
+use Rattle.demands.specs.Demands.{InArea, NoWalk, Finished, markOf, left, Demand2, Sound, Demand3}
+use Rattle.demands.proofs.Optimum.{root, after, best-is, root-in, settled-cost, optimum, Optimum, missing, present, optimum-cases}
+use Rattle.demands.proofs.Turns.{stops, turns, reach-exactly, stops-some, turns-low, before-turns, at-turns, settled-turns}
+use Rattle.demands.proofs.Run.{bench, unmarked, done-stops, turn-more, run-opened}
+use Rattle.demands.proofs.Area.{finds, optimum-unknown, mark-sound, mark-complete, ends-in}
 
 module _ {map : List ℕ} {n m start target stretch : ℕ} (order : Order map n m start target stretch) (past : List ℕ) where
   -- ---- the bench at two counts

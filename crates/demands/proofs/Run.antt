@@ -16,9 +16,9 @@ use Rattle.shape.specs.Rules.{done, mark, listFrom, marksOf, marked, settledBy,
 use Rattle.shape.proofs.Turns.{turned-done, turned-settles}
 use Rattle.nearest.specs.After.{halfAfter}
 use Rattle.nearest.proofs.Theorems.{after-some}
-use Rattle.claims.specs.Mixture.{Order, run, turnsIn, bySide, optimumOf, benchAt}
-use Rattle.claims.proofs.Optimum.{known-unknown, after, next, own, own-word, optimum, Optimum, missing, present, optimum-cases, optimum-opened, found-more}
-use Rattle.claims.proofs.Turns.{stops, stops-same, turns, going, before-turns, at-turns}
+use Rattle.demands.specs.Mixture.{Order, run, turnsIn, bySide, optimumOf, benchAt}
+use Rattle.demands.proofs.Optimum.{known-unknown, after, next, own, own-word, optimum, Optimum, missing, present, optimum-cases, optimum-opened, found-more}
+use Rattle.demands.proofs.Turns.{stops, stops-same, turns, going, before-turns, at-turns}
 
 no-marks : (n stretch : ℕ) (f g : List ℕ) (v k : ℕ) → listFrom (mark n stretch unknown f g) v k ≡ replicate k 0
 unfolding listFrom mark

@@ -24,14 +24,14 @@ use Rattle.trail.specs.Sound.{SoundHalf}
 use Rattle.trail.proofs.Soundness.{sound-fault, marks-fault}
 use Rattle.route.specs.Area.{routeOf}
 use Rattle.area.specs.Finished.{doneFault, unknownFault, ruleFault, trailsFault, finishedFault, areaFault, askedFault, routeFault}
-use Rattle.table.proofs.Numbers.{fault-done, done-fault}
-use Rattle.claims.specs.Mixture.{Order, bySide, benchAt}
-use Rattle.claims.specs.Demands.{InArea, Route, Finished, NoWalk}
+use Rattle.area.proofs.Laws.{fault-done, done-fault}
+use Rattle.demands.specs.Mixture.{Order, bySide, benchAt}
+use Rattle.demands.specs.Demands.{InArea, Route, Finished, NoWalk}
 use Rattle.nearest.proofs.Theorems.{least-ceiling}
-use Rattle.claims.proofs.Optimum.{known-low, known-unknown}
-use Rattle.claims.proofs.Run.{bench}
-use Rattle.claims.proofs.Demands.{demand-2-at, sound-at}
-use Rattle.claims.proofs.Calls.{lent-fine}
+use Rattle.demands.proofs.Optimum.{known-low, known-unknown}
+use Rattle.demands.proofs.Run.{bench}
+use Rattle.demands.proofs.Demands.{demand-2-at, sound-at}
+use Rattle.demands.proofs.Calls.{lent-fine}
 
 -- ---- which numbers a check can give
 

@@ -15,10 +15,10 @@ use Rattle.map.specs.declared.Side.the-variants.{Forward, Backward}
 use Rattle.map.proofs.Walks.{least-unique, least-back}
 use Rattle.half.specs.Half.{unknown, ceiling, dist, state}
 use Rattle.shape.specs.Rules.{known, within, mark}
-use Rattle.claims.specs.Mixture.{Order, bySide}
-use Rattle.claims.specs.Demands.{InArea}
-use Rattle.claims.proofs.Optimum.{known-low, known-unknown, root, goal, after, best, best-is, Best, route, none, best-cases, Route, route-best, route-goal, goal-in, settled-cost, optimum, Optimum, missing, present, optimum-cases}
-use Rattle.claims.proofs.Turns.{not-beyond, stops, in-reach, covers}
+use Rattle.demands.specs.Mixture.{Order, bySide}
+use Rattle.demands.specs.Demands.{InArea}
+use Rattle.demands.proofs.Optimum.{known-low, known-unknown, root, goal, after, best, best-is, Best, route, none, best-cases, Route, route-best, route-goal, goal-in, settled-cost, optimum, Optimum, missing, present, optimum-cases}
+use Rattle.demands.proofs.Turns.{not-beyond, stops, in-reach, covers}
 
 module _ {map : List ℕ} {n m start target stretch : ℕ} (order : Order map n m start target stretch) where
   -- a done half has settled every crossing in reach, at its least cost

@@ -19,7 +19,7 @@ use Rattle.half.proofs.Counts.{Settles}
 use Rattle.shape.specs.Rules.{known, found}
 use Rattle.nearest.specs.After.{halfAfter}
 use Rattle.nearest.proofs.Theorems.{settles, settled-least, settled-reached, settled-once, all-done, least-or-none, least-ceiling, next-open, next-least, next-first}
-use Rattle.claims.specs.Mixture.{Order, bySide, settledDist, optimumOf}
+use Rattle.demands.specs.Mixture.{Order, bySide, settledDist, optimumOf}
 
 pub known-low : (o : ℕ) → o ≤ ceiling → known o ≡ true
 unfolding known

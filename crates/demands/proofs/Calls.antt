@@ -24,9 +24,9 @@ use Rattle.shaped.specs.Lent.{lentFault}
 use Rattle.shaped.proofs.Shaped.{shaped-fault, opened-shaped}
 use Rattle.shape.proofs.Turns.{turned-shaped}
 use Rattle.bench.specs.Calls.{judged, orderFault, openFault, openSaid, openWords, turnFault, turnSaid, turnWords}
-use Rattle.claims.specs.Mixture.{Order, run}
-use Rattle.claims.specs.Calls.{sideOf, sidesOf, turnsWords, mixtureWords}
-use Rattle.claims.proofs.Run.{run-opened}
+use Rattle.demands.specs.Mixture.{Order, run}
+use Rattle.demands.specs.Calls.{sideOf, sidesOf, turnsWords, mixtureWords}
+use Rattle.demands.proofs.Run.{run-opened}
 
 -- ---- a turn on the words of a well-shaped bench
 

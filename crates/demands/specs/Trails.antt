@@ -9,8 +9,8 @@ use Rattle.map.specs.Map.{cost}
 use Rattle.map.specs.Walk.{other, near, far, Walk, Least}
 use Rattle.map.specs.declared.Side.{Side}
 use Rattle.map.specs.declared.Side.the-variants.{Forward, Backward}
-use Rattle.claims.specs.Mixture.{bySide}
-use Rattle.claims.specs.Demands.{InArea}
+use Rattle.demands.specs.Mixture.{bySide}
+use Rattle.demands.specs.Demands.{InArea}
 
 module _ (map : List ℕ) (m start target : ℕ) where
   -- from(v) is c; backward: to(v) is c
@@ -35,11 +35,15 @@ module _ (map : List ℕ) (m start target : ℕ) where
     at-root : {v : ℕ} {qs : List ℕ} → v ≡ bySide s start target → qs ≡ v ∷ [] → Trail s v qs
     by-link : {v : ℕ} {qs rest : List ℕ} → (k : ℕ) → v ≢ bySide s start target → Lowest s v k → Trail s (near s map k) rest → qs ≡ v ∷ rest → Trail s v qs
 
+  -- which crossings of the trail of v are tested: those from which v is at most the locality away
+  abbrev pub Tested : ℕ → ℕ → Type 0
+  Tested locality d = d ≤ locality
+
   -- the condition on the trail qs of v: "for every q on its forward trail with d = from(I) - from(q) <= locality, I itself included,
   -- to(q) = d + to(I)"; "A q that the other half hasn't settled fails", for it has no such least cost: that would be in reach
   abbrev pub Optimal : Side → ℕ → ℕ → List ℕ → Type 0
   Optimal s locality v qs =
-      (q a c d : ℕ) → List·Memᴰ q qs → Away s q a → Away s v (a + d) → d ≤ locality → Away (other s) v c → Away (other s) q (d + c)
+      (q a c d : ℕ) → List·Memᴰ q qs → Away s q a → Away s v (a + d) → Tested locality d → Away (other s) v c → Away (other s) q (d + c)
 
   -- "A marked I is in BL if (a)", that condition on its forward trail, "and (b)", that on its backward trail
   pub record InLocal (stretch locality v : ℕ) : Type 0 where

@@ -9,7 +9,7 @@ use Rattle.map.specs.declared.Side.{Side}
 use Rattle.map.specs.declared.Side.the-variants.{Forward, Backward}
 use Rattle.shape.specs.Bench.{benchWords, words}
 use Rattle.bench.specs.Calls.{openSaid, turnWords}
-use Rattle.claims.specs.Mixture.{turnsIn, benchAt, turnsOf}
+use Rattle.demands.specs.Mixture.{turnsIn, benchAt, turnsOf}
 
 abbrev pub sideOf : ℕ → Side
 sideOf byte = cond (eqb byte 0) Forward Backward

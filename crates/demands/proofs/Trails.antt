@@ -22,13 +22,13 @@ use Rattle.trail.specs.Trail.{trail, Settled, Trails}
 use Rattle.trail.proofs.Walking.{trail-induct}
 use Rattle.trail.proofs.Soundness.{link-root, sound-trails}
 use Rattle.route.specs.Area.{tested, agreesAt, agrees, every, localIn}
-use Rattle.claims.specs.Mixture.{Order, bySide}
-use Rattle.claims.specs.Demands.{InArea, Route, Finished}
-use Rattle.claims.specs.Trails.{Away, Lowest, Trail, at-root, by-link, Optimal, InLocal}
-use Rattle.claims.proofs.Run.{bench}
-use Rattle.claims.proofs.Area.{reached}
-use Rattle.claims.proofs.Demands.{half-at, stopped, demand-2-at, sound-at}
-use Rattle.claims.proofs.Refusals.{sound-half}
+use Rattle.demands.specs.Mixture.{Order, bySide}
+use Rattle.demands.specs.Demands.{InArea, Route, Finished}
+use Rattle.demands.specs.Trails.{Away, Lowest, Trail, at-root, by-link, Optimal, InLocal}
+use Rattle.demands.proofs.Run.{bench}
+use Rattle.demands.proofs.Area.{reached}
+use Rattle.demands.proofs.Demands.{half-at, stopped, demand-2-at, sound-at}
+use Rattle.demands.proofs.Refusals.{sound-half}
 
 -- ---- the tests along a list are the test of each that is near enough
 

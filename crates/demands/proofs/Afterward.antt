@@ -23,16 +23,16 @@ use Rattle.area.specs.Finished.{areaFault, routeFault}
 use Rattle.bench.specs.Areas.{areaSaid, areaMask}
 use Rattle.bench.specs.Calls.{judged}
 use Rattle.bench.specs.Routes.{routeSaid, routePart}
-use Rattle.claims.specs.Mixture.{Order, bySide, benchAt}
-use Rattle.claims.specs.Demands.{InArea, Route, Finished, left}
-use Rattle.claims.specs.Trails.{InLocal, RouteThrough}
-use Rattle.claims.specs.Afterward.{Afterward, byteOf}
-use Rattle.claims.proofs.Run.{bench, run-opened}
-use Rattle.claims.proofs.Area.{ends-in}
-use Rattle.claims.proofs.Demands.{demand-2-at, sound-at}
-use Rattle.claims.proofs.Calls.{turn-fine}
-use Rattle.claims.proofs.Refusals.{sound-half, area-done, route-done, area-fine, route-fine, area-none, area-goes, route-none, route-unmarked, route-goes}
-use Rattle.claims.proofs.Trails.{held, settled-both, local-both}
+use Rattle.demands.specs.Mixture.{Order, bySide, benchAt}
+use Rattle.demands.specs.Demands.{InArea, Route, Finished, left}
+use Rattle.demands.specs.Trails.{InLocal, RouteThrough}
+use Rattle.demands.specs.Afterward.{Afterward, byteOf}
+use Rattle.demands.proofs.Run.{bench, run-opened}
+use Rattle.demands.proofs.Area.{ends-in}
+use Rattle.demands.proofs.Demands.{demand-2-at, sound-at}
+use Rattle.demands.proofs.Calls.{turn-fine}
+use Rattle.demands.proofs.Refusals.{sound-half, area-done, route-done, area-fine, route-fine, area-none, area-goes, route-none, route-unmarked, route-goes}
+use Rattle.demands.proofs.Trails.{held, settled-both, local-both}
 
 -- the three bytes of a mask, by a crossing's mark and its two tests
 data Byte (x : ℕ) (A L : Type 0) : Type 0 where

@@ -1,0 +1,9 @@
+pub mod Optimum
+pub mod Turns
+pub mod Run
+pub mod Area
+pub mod Demands
+pub mod Calls
+pub mod Refusals
+pub mod Trails
+pub mod Afterward

@@ -1,0 +1,1 @@
+// The demands, as statements and theorems over benches and the words of the calls; there is no code.
