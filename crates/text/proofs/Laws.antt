@@ -1,23 +1,45 @@
--- The ways that the reader's loops go: what a line does to the answer, and its words to the map. Assumes nothing.
+-- The ways that the reader goes: what is left of a text from a place on, what a line does to the answer, and its words to the map. Assumes nothing.
 use mathlib.Core.Path.{_≡_}
 use mathlib.Core.List.{List, [], _∷_}
-use Prim.Native.Nat.{ℕ, _+_}
+use Prim.Native.Nat.{ℕ, _+_, _-_, _≤_}
 use native.Mathlib.Omega.{arith}
-use lib.ListN.{length, drop, length-append, drop-of-length-le}
-use lib.Seq.{sets}
-use Prim.Native.Nat.{_≤_}
+use lib.ListN.{length, take, drop, length-append, length-drop, drop-of-length-le}
+use lib.Seq.{sets, take-all}
 use Rattle.limits.proofs.Lists.{sets-append}
 use Rattle.limits.specs.Said.{refused}
 use Rattle.line.specs.Line.{lineOf}
-use Rattle.line.specs.Lines.{linesOf}
+use Rattle.line.specs.Lines.{linesOf, firstLine, lineEnd}
+use Rattle.line.proofs.Lines.{first-of}
 use Rattle.line.specs.declared.Field.{Field}
 use Rattle.line.specs.declared.Line.{Line}
 use Rattle.line.specs.declared.Line.the-variants.{Link}
 use Rattle.step.specs.Step.{taken}
+use Rattle.text.specs.Held.{lineAt}
 use Rattle.text.specs.Text.{finish, readLines, lineWords, wordsOf}
 use Rattle.step.specs.declared.State.{State}
 use Rattle.step.specs.declared.Fault.{Fault}
 use Rattle.step.specs.declared.Step.the-variants.{Go, Stop}
+
+-- ---- what is left from a place on
+
+pub left-some : (s : List ℕ) (at : ℕ) → take (length s - at) (drop at s) ≡ drop at s
+left-some s at = take-all (length s - at) (drop at s) (simp length-drop (omega arith))
+
+pub left-none : (s : List ℕ) (at end : ℕ) → length s ≤ at → length s ≤ end → take (end - end) (drop end s) ≡ drop at s
+left-none s at end h k = let z : end - end ≡ 0 = omega arith in rw (drop-of-length-le s h, drop-of-length-le s k, z)
+
+-- its first line is the one at the place
+module _ (l : List ℕ) {e : ℕ} (q : e ≡ lineEnd l 0) where
+  size : e ≡ length (firstLine l)
+  unfolding lineEnd
+  size = omega (arith, q)
+
+  pub end-within : e ≤ length l
+  end-within = omega (arith, size, first-of l .within)
+
+  pub line-first : (s : List ℕ) (at : ℕ) → l ≡ drop at s → lineOf (take e l) ≡ lineAt s at
+  unfolding lineAt
+  line-first s at p = rw (size, first-of l .begins, p)
 
 -- ---- the first pass
 

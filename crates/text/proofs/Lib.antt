@@ -1,3 +1,4 @@
 pub mod Good
 pub mod Laws
 pub mod Refusals
+pub mod Held

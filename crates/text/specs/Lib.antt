@@ -1,3 +1,4 @@
 pub mod Text
 pub mod Good
 pub mod Refused
+pub mod Held
