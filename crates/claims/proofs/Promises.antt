@@ -4,7 +4,8 @@ use mathlib.Core.Logic.{_≢_}
 use mathlib.Core.List.{List, []}
 use Prim.Native.Nat.{ℕ, _≤_}
 use native.Mathlib.Omega.{arith}
-use lib.ListN.{length}
+use lib.ListN.{length, drop}
+use denote.Ref.{now}
 use Rattle.limits.specs.Limits.{Between}
 use Rattle.limits.specs.Said.{Said, told, refused, unlessRefused}
 use Rattle.text.specs.Text.{said, mapAfter}
@@ -21,7 +22,7 @@ use Rattle.sankayop.specs.Packed.{number, first, second, inOne, packed, Fits, P
 use Rattle.sankayop.proofs.Packs.{parts-same, open-packs, turn-packs, area-packs, route-packs}
 use Rattle.sankayop.proofs.Reading.{read-packs}
 use Rattle.demands.specs.Calls.{mixtureWords}
-use Rattle.claims.specs.Promises.{Kept, Answered, KeptPacked, Promises}
+use Rattle.claims.specs.Promises.{Kept, Answered, KeptPacked, Told, Promises}
 
 -- ---- the promises
 
@@ -37,6 +38,9 @@ kept say alike low high s numbers filled lent =
 
 answered : (low high fault : ℕ) → (fault ≢ 0 → Between low high fault) → Answered low high (λ r. r ≡ fault)
 answered low high fault b = record { numbered = λ r e ne. rw e (b (λ z. ne (e ∙ z))); same = λ r q e f. e ∙ sym f }
+
+told-same : {A : Type 0} (answer : A) → Told (λ r. r ≡ answer)
+told-same answer = record { same = λ a b e f. e ∙ sym f }
 
 -- the same, where the answer is packed: what it can be taken apart into is what s says
 kept-packed : (low high : ℕ) (s : Said) → Packs s → Numbered low high s → (filled lent : List ℕ)
@@ -66,6 +70,10 @@ unfolding mapAfter openWords turnWords areaMask routeBuffer mixtureWords
 promises =
     record {
       read = λ text map. kept said said-same 1 5 _ (read-numbered (length map) text) _ map;
+      begin = λ text. told-same _;
+      line-here = λ reader. told-same _;
+      past-line = λ reader. told-same _;
+      read-on = λ reader map. kept said said-same 1 5 _ (read-numbered (length map) (drop (reader .at) (now (reader .text)))) _ map;
       fault = λ map n m. answered 2 5 _ (map-in map n m);
       open-bench = λ map n m start target stretch x.
           kept saidOpening opening-same 2 5 _ (open-numbered map n m x start target stretch) _ x;

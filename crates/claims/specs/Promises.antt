@@ -7,10 +7,15 @@ use mathlib.Core.Path.{_≡_}
 use mathlib.Core.Logic.{_≢_, _↔_}
 use mathlib.Core.List.{List, []}
 use Prim.Native.Nat.{ℕ}
-use lib.ListN.{length}
+use lib.ListN.{length, drop}
+use denote.Ref.{RefT, now}
 use Rattle.limits.specs.Limits.{Between}
 use Rattle.limits.specs.Said.{Said, refused}
+use Rattle.line.specs.Lines.{lineEnd}
+use Rattle.line.specs.declared.Line.{Line}
+use Rattle.text.specs.Held.{readerAt, lineAt}
 use Rattle.text.specs.Text.{said, readText, mapAfter}
+use Rattle.text.specs.declared.Reader.{Reader}
 use Rattle.text.specs.declared.Reading.{Reading}
 use Rattle.map.specs.Map.{mapFault}
 use Rattle.map.specs.declared.Side.{Side}
@@ -29,6 +34,20 @@ use Rattle.demands.specs.Calls.{mixtureWords}
 
 abbrev pub Read : List ℕ → List ℕ → Reading → List ℕ → Type 0
 Read text map r after = (said r ≡ readText (length map) text) × (after ≡ mapAfter text map)
+
+-- a reader at the beginning of a lent text, the line at a reader's place, and the reader past that line
+abbrev pub Begin : RefT (List ℕ) → Reader → Type 0
+Begin text r = r ≡ readerAt text 0
+
+abbrev pub TellLine : Reader → Line → Type 0
+TellLine reader r = r ≡ lineAt (now (reader .text)) (reader .at)
+
+abbrev pub PassLine : Reader → Reader → Type 0
+PassLine reader r = r ≡ readerAt (reader .text) (lineEnd (now (reader .text)) (reader .at))
+
+-- a reader reads what is left of its text
+abbrev pub ReadOn : Reader → List ℕ → Reading → List ℕ → Type 0
+ReadOn reader = Read (drop (reader .at) (now (reader .text)))
 
 abbrev pub Open : List ℕ → ℕ → ℕ → ℕ → ℕ → ℕ → List ℕ → Opening → List ℕ → Type 0
 Open map n m start target stretch x r after =
@@ -90,10 +109,19 @@ pub record Answered (low high : ℕ) (P : ℕ → Type 0) : Type 0 where
   pub numbered : (r : ℕ) → P r → r ≢ 0 → Between low high r
   pub same : (r q : ℕ) → P r → P q → r ≡ q
 
+-- of a call that is not refused and writes nothing
+pub record Told {A : Type 0} (P : A → Type 0) : Type 0 where
+  pub same : (a b : A) → P a → P b → a ≡ b
+
 -- every public call; a Place is where a part of a lent buffer lies
 pub record Promises (Place : Type 0) : Type 0 where
   -- text::read, lent the map
   pub read : (text map : List ℕ) → Kept said 1 5 map (Read text map)
+  -- text::begin, text::line_here, text::past_line, and text::read_on, lent the map
+  pub begin : (text : RefT (List ℕ)) → Told (Begin text)
+  pub line-here : (reader : Reader) → Told (TellLine reader)
+  pub past-line : (reader : Reader) → Told (PassLine reader)
+  pub read-on : (reader : Reader) (map : List ℕ) → Kept said 1 5 map (ReadOn reader map)
   -- map::fault
   pub fault : (map : List ℕ) (n m : ℕ) → Answered 2 5 (λ r. r ≡ mapFault n m map)
   -- bench::open_bench, lent the bench x
