@@ -82,10 +82,6 @@ module _ (map : List ℕ) (n m : ℕ) (x : List ℕ) (crossing : ℕ) (buffer : 
       go (yes z) = rw (part-routed z) (route-goes map n m x crossing (length buffer) z .1)
       go (no z) = rw (part-refused z) (omega arith)
 
-  pub buffer-refused : (routeFault map n m x crossing (length buffer) ≡ 0 → ⊥) → routeBuffer map n m x crossing buffer ≡ buffer
-  unfolding routeBuffer routeSaid judged
-  buffer-refused z = simp (ne-eqb _ _ z)
-
   -- the buffer begins with the part, and its later words stay
   pub buffer-part : routeBuffer map n m x crossing buffer ≡ routePart map n m x crossing buffer ++ drop (length (routePart map n m x crossing buffer)) buffer
   unfolding routeBuffer routePart

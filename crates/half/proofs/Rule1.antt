@@ -60,10 +60,6 @@ module _ {n : ℕ} {h : List ℕ} {b : ℕ} where
   none-open (nothing e f) z = f
   none-open (found r) z = absurd (omega arith)
 
-  pub open-none : Nearest n h n b → ((v : ℕ) → Between 1 n v → state n h v ≢ 1) → b ≡ 0
-  open-none (nothing e f) all = e
-  open-none (found r) all = absurd (all b (r .inside) (r .is-open))
-
   pub nearest-first : Nearest n h n b → b ≢ 0 → First n h n b
   nearest-first (nothing e f) ne = absurd (ne e)
   nearest-first (found r) ne = r

@@ -51,9 +51,6 @@ module _ (map : List ℕ) (n locality : ℕ) (f g marks : List ℕ) where
   unfolding maskIn
   mask-of x i = list-at _ 1 n (x - 1) (omega arith) ∙ (let e : 1 + (x - 1) ≡ x = omega arith in ap (maskAt map n locality f g marks) e)
 
-  pub mask-range : (x : ℕ) → Between 1 n x → getD (maskIn map n locality f g marks) (x - 1) 0 ≤ 2
-  mask-range x i = rw (mask-of x i) (mask-most map n locality f g marks x)
-
 pub mask-zero : {map : List ℕ} {n : ℕ} {f g marks : List ℕ} → Walkable map n f g marks → (x : ℕ) → Between 1 n x → getD marks (x - 1) 0 ≡ 1 → getD (maskIn map n 0 f g marks) (x - 1) 0 ≡ 2
 mask-zero {map} {n} {f} {g} {marks} walk x i one =
     let s = walk .marked-forward x i one in

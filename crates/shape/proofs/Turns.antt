@@ -54,10 +54,6 @@ unfolding other
 settledBy-other Forward map x b = refl
 settledBy-other Backward map x b = refl
 
-pub turned-other : (s : Side) (map : List ℕ) (b : Bench) → half (other s) (turned s map b) ≡ half (other s) b
-turned-other s map b =
-    turned-cases s map b (λ c. half (other s) c ≡ half (other s) b) (λ _. refl) (λ _. settledBy-other s map (next s b) b)
-
 -- ---- done stays
 
 -- a known optimum is never changed

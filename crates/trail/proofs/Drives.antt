@@ -36,20 +36,6 @@ module _ {side : Side} {map : List ℕ} {m : ℕ} where
 -- ---- along a trail
 
 module _ {side : Side} {map : List ℕ} {n : ℕ} {h : List ℕ} (walk : Trails side map n h) where
-  pub trail-settled : (v : ℕ) → Settled n h v → (i : ℕ) → i < length (trail side map n h v) → Settled n h (getD (trail side map n h v) i 0)
-  trail-settled = trail-induct walk P last more
-    where
-      P : ℕ → List ℕ → Type 0
-      P v qs = (i : ℕ) → i < length qs → Settled n h (getD qs i 0)
-
-      last : (v : ℕ) → Settled n h v → link n h v ≡ 0 → P v (v ∷ [])
-      last v s z zero lt = s
-      last v s z (suc i) lt = absurd (omega arith)
-
-      more : (v : ℕ) → Settled n h v → link n h v ≢ 0 → P (near side map (link n h v)) (trail side map n h (near side map (link n h v))) → P v (v ∷ trail side map n h (near side map (link n h v)))
-      more v s nz r zero lt = s
-      more v s nz r (suc i) lt = r i (omega arith)
-
   pub trail-no-farther : (v : ℕ) → Settled n h v → (i : ℕ) → i < length (trail side map n h v) → dist h (getD (trail side map n h v) i 0) ≤ dist h v
   trail-no-farther = trail-induct walk P last more
     where
