@@ -1,7 +1,7 @@
 -- The ways that the reader goes: what is left of a text from a place on, what a line does to the answer, and its words to the map. Assumes nothing.
-use mathlib.Core.Path.{_≡_}
+use mathlib.Core.Path.{_≡_, refl, _∙_}
 use mathlib.Core.List.{List, [], _∷_}
-use Prim.Native.Nat.{ℕ, _+_, _-_, _≤_}
+use Prim.Native.Nat.{ℕ, _+_, _-_, _≤_, _<_}
 use native.Mathlib.Omega.{arith}
 use lib.ListN.{length, take, drop, length-append, length-drop, drop-of-length-le}
 use lib.Seq.{sets, take-all}
@@ -9,7 +9,7 @@ use Rattle.limits.proofs.Lists.{sets-append}
 use Rattle.limits.specs.Said.{refused}
 use Rattle.line.specs.Line.{lineOf}
 use Rattle.line.specs.Lines.{linesOf, firstLine, lineEnd}
-use Rattle.line.proofs.Lines.{first-of}
+use Rattle.line.proofs.Lines.{first-of, line-ends}
 use Rattle.line.specs.declared.Field.{Field}
 use Rattle.line.specs.declared.Line.{Line}
 use Rattle.line.specs.declared.Line.the-variants.{Link}
@@ -40,6 +40,13 @@ module _ (l : List ℕ) {e : ℕ} (q : e ≡ lineEnd l 0) where
   pub line-first : (s : List ℕ) (at : ℕ) → l ≡ drop at s → lineOf (take e l) ≡ lineAt s at
   unfolding lineAt
   line-first s at p = rw (size, first-of l .begins, p)
+
+-- past a line come the lines after it: a reader comes to every line, in order
+pub lines-on : (s : List ℕ) (at : ℕ) → at < length s → linesOf (drop at s) ≡ firstLine (drop at s) ∷ linesOf (drop (lineEnd s at) s)
+unfolding lineEnd
+lines-on s at h =
+    let k : lineEnd s at - at ≡ length (firstLine (drop at s)) = omega arith in
+    line-ends s at (lineEnd s at) h refl .first ∙ rw (k, first-of (drop at s) .begins)
 
 -- ---- the first pass
 

@@ -1,4 +1,5 @@
-// The reader of a road map's text: it holds the text and the place it has come to. It checks all that is left first, and then writes the map.
+// The reader of a road map's text: it holds the text and the place it has come to, checks all that is left first, and then
+// writes the map. What takes or makes a `Reader` is thin, over functions on a slice and a number.
 use line::Line;
 use step::State;
 use step::Step;
