@@ -42,7 +42,7 @@ use Rattle.line.proofs.Line as S
 use Rattle.line.proofs.Line.Laws as S′
 use Rattle.text.specs.Held.{lineAt}
 use Rattle.text.specs.declared.Reader.{Reader}
-use Rattle.text.proofs.Held.{mach, textVal, atVal, Own, OwnText, OwnAt, apart}
+use Rattle.text.proofs.Held.{mach, textVal, atVal, Own, lent}
 use Rattle.text.proofs.Reader as T
 use Rattle.text.proofs.Reader.Laws as T′
 use Rattle.text.proofs.line_at as line-at
@@ -86,14 +86,9 @@ module _ {M : Type 1} (𝓤 : URA M) (H : Heap 𝓤) (A : Atoms 𝓤) (W : Given
   abbrev to : LineAt 𝓤 H A mem run .Ghost
   to = (((κ, tt), (q, tt), tt, (d .text, (d .at, tt)), passed), tt)
 
-  asked : ent 𝓤 (onEntry 𝓤 H A line-at.signature (κ, tt) (q, tt) (d .text, (d .at, tt)) passed) (LineAt 𝓤 H A mem run .pre to)
-  asked = qed W ((‵ (flft κ q) ⊛ ‵ ftrue) ∷ ‵ (owns (ShrSlice (named 0) κ u8 ∷ usize ∷ []) (d .text, (d .at, tt)) passed) ∷ []) ∵ join ! $ frame ! $ done !
-
   -- what the reader owns gives what the callee asks, and is kept
   goes : d .at < 2 ^ 64 → ent 𝓤 (onEntry 𝓤 H A line-here.signature (κ, tt) (q, tt) (d, tt) (u₀ ∷ [], tt)) (sep 𝓤 (LineAt 𝓤 H A mem run .pre to) (sem 𝓤 H A (Own d α)))
-  goes fits =
-      qed W ((‵ (flft κ q) ⊛ ‵ ftrue) ∷ ‵ (owns (B (κ, tt) ∷ []) (d, tt) (u₀ ∷ [], tt)) ∷ []) ∵ move ! (1 ∷ []) $
-      use1 W (‵ (fsep (OwnText d α) (fsep (OwnAt d α) ftrue)) ⊛ ‵ (Own d α)) (apart d α 𝓤 H A W ftrue fits) $ split ! $ move ! (2 ∷ 0 ∷ []) $ use2 W (raw (LineAt 𝓤 H A mem run .pre to)) asked $ frame ! $ done !
+  goes fits = lent d α 𝓤 H A W (sep 𝓤 (A .lft κ q) (emp 𝓤)) ftrue fits
 
   -- of what the callee ensures, the clause alone
   said : (r : Line) → ent 𝓤 (ensured 𝓤 H A line-at.ended (line-at.clauses 𝓤 H A mem run) (κ, tt) (d .text, (d .at, tt)) tt r) (fact 𝓤 (r ≡ found))

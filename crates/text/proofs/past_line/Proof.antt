@@ -47,7 +47,7 @@ use Rattle.line.proofs.line_end.Symbol.{name as #line·line-end}
 use Rattle.line.proofs.line_end.Met as line-end-thm
 use Rattle.text.specs.Held.{readerAt}
 use Rattle.text.specs.declared.Reader.{Reader}
-use Rattle.text.proofs.Held.{mach, textVal, atVal, Own, OwnText, OwnAt, D, L, fields, twice, apart}
+use Rattle.text.proofs.Held.{mach, textVal, atVal, Own, D, L, fields, twice, lent}
 use Rattle.text.proofs.Reader as T
 use Rattle.text.proofs.Reader.Laws as T′
 use Rattle.text.proofs.past_line.Key.{name as #text·past-line}
@@ -87,14 +87,9 @@ module _ {M : Type 1} (𝓤 : URA M) (H : Heap 𝓤) (A : Atoms 𝓤) (W : Given
   abbrev to : LineEnd 𝓤 H A mem run .Ghost
   to = (((κ, tt), (q, tt), tt, (d .text, (d .at, tt)), passed), tt)
 
-  asked : ent 𝓤 (onEntry 𝓤 H A line-end.signature (κ, tt) (q, tt) (d .text, (d .at, tt)) passed) (LineEnd 𝓤 H A mem run .pre to)
-  asked = qed W ((‵ (flft κ q) ⊛ ‵ ftrue) ∷ ‵ (owns (ShrSlice (named 0) κ u8 ∷ usize ∷ []) (d .text, (d .at, tt)) passed) ∷ []) ∵ join ! $ frame ! $ done !
-
   -- what the reader owns gives what the callee asks, and is kept
   goes : d .at < 2 ^ 64 → ent 𝓤 (onEntry 𝓤 H A past-line.signature (κ, tt) (q, tt) (d, tt) (u₀ ∷ [], tt)) (sep 𝓤 (LineEnd 𝓤 H A mem run .pre to) (sem 𝓤 H A (Own d α)))
-  goes fits =
-      qed W ((‵ (flft κ q) ⊛ ‵ ftrue) ∷ ‵ (owns (B (κ, tt) ∷ []) (d, tt) (u₀ ∷ [], tt)) ∷ []) ∵ move ! (1 ∷ []) $
-      use1 W (‵ (fsep (OwnText d α) (fsep (OwnAt d α) ftrue)) ⊛ ‵ (Own d α)) (apart d α 𝓤 H A W ftrue fits) $ split ! $ move ! (2 ∷ 0 ∷ []) $ use2 W (raw (LineEnd 𝓤 H A mem run .pre to)) asked $ frame ! $ done !
+  goes fits = lent d α 𝓤 H A W (sep 𝓤 (A .lft κ q) (emp 𝓤)) ftrue fits
 
   -- of what the callee ensures, the clause alone
   said : (r : ℕ) → ent 𝓤 (ensured 𝓤 H A line-end.ended (line-end.clauses 𝓤 H A mem run) (κ, tt) (d .text, (d .at, tt)) tt r) (fact 𝓤 (r ≡ found))

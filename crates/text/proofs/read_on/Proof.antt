@@ -43,7 +43,7 @@ use denote.Triple.Clauses.{ensured, lasts}
 use Rattle.text.specs.Text.{said, readText, mapAfter}
 use Rattle.text.specs.declared.Reader.{Reader}
 use Rattle.text.specs.declared.Reading.{Reading}
-use Rattle.text.proofs.Held.{mach, textVal, atVal, Own, OwnText, OwnAt, apart}
+use Rattle.text.proofs.Held.{mach, textVal, atVal, Own, lent}
 use Rattle.text.proofs.Reader as T
 use Rattle.text.proofs.Reader.Laws as T′
 use Rattle.text.proofs.Reading as S
@@ -86,9 +86,6 @@ module _ {M : Type 1} (𝓤 : URA M) (H : Heap 𝓤) (A : Atoms 𝓤) (W : Given
   abbrev y : Val
   y = sliceVal (b, o) (length ys)
 
-  abbrev OwnMap : Fml
-  OwnMap = fsep (MutSlice (named 1) κ′ u32 .own x (y ∷ [])) ftrue
-
   abbrev left : List ℕ
   left = ListN.drop (d .at) (now (d .text))
 
@@ -112,14 +109,9 @@ module _ {M : Type 1} (𝓤 : URA M) (H : Heap 𝓤) (A : Atoms 𝓤) (W : Given
   abbrev to : ReadFrom 𝓤 H A mem run .Ghost
   to = ((κs, (q, (q′, tt)), tt, (d .text, (d .at, (x, tt))), passed), tt)
 
-  asked : ent 𝓤 (onEntry 𝓤 H A read-from.signature κs (q, (q′, tt)) (d .text, (d .at, (x, tt))) passed) (ReadFrom 𝓤 H A mem run .pre to)
-  asked = qed W ((‵ (flft κ q) ⊛ ‵ (flft κ′ q′) ⊛ ‵ ftrue) ∷ ‵ (owns (ShrSlice (named 0) κ u8 ∷ usize ∷ MutSlice (named 1) κ′ u32 ∷ []) (d .text, (d .at, (x, tt))) passed) ∷ []) ∵ join ! $ frame ! $ done !
-
   -- what the reader and the map own gives what the callee asks, and the reader's is kept
   goes : d .at < 2 ^ 64 → ent 𝓤 (onEntry 𝓤 H A read-on.signature κs (q, (q′, tt)) args vals) (sep 𝓤 (ReadFrom 𝓤 H A mem run .pre to) (sem 𝓤 H A (Own d α)))
-  goes fits =
-      qed W ((‵ (flft κ q) ⊛ ‵ (flft κ′ q′) ⊛ ‵ ftrue) ∷ ‵ (owns (B κs ∷ MutSlice (named 1) κ′ u32 ∷ []) args vals) ∷ []) ∵ move ! (1 ∷ []) $
-      use1 W (‵ (fsep (OwnText d α) (fsep (OwnAt d α) OwnMap)) ⊛ ‵ (Own d α)) (apart d α 𝓤 H A W OwnMap fits) $ split ! $ move ! (2 ∷ 0 ∷ []) $ use2 W (raw (ReadFrom 𝓤 H A mem run .pre to)) asked $ frame ! $ done !
+  goes fits = lent d α 𝓤 H A W (sep 𝓤 (A .lft κ q) (sep 𝓤 (A .lft κ′ q′) (emp 𝓤))) (fsep (MutSlice (named 1) κ′ u32 .own x (y ∷ [])) ftrue) fits
 
   exits : (r : Reading) (u : Val) (zs : List ℕ) → Promise r zs → length zs ≡ length ys → ent 𝓤 (⋆ 𝓤 H A (‵ (S.the-row .own r (u ∷ [])) ∷ (‵ (flft κ q) ⊛ ‵ (flft κ′ q′) ⊛ ‵ ftrue) ∷ ‵ (finally u32 γ zs) ∷ ‵ (Own d α) ∷ [])) (Post u)
   exits r u zs e l =
