@@ -14,7 +14,7 @@ use Rattle.map.specs.Walk.{Least}
 use Rattle.map.specs.declared.Side.{Side}
 use Rattle.map.specs.declared.Side.the-variants.{Forward, Backward}
 use Rattle.half.specs.Half.{unknown, ceiling}
-use Rattle.shape.specs.Bench.{Bench, benchWords, words, parse}
+use Rattle.shape.specs.Bench.{Bench, benchWords, words, parse, opened}
 use Rattle.shape.specs.Rules.{done}
 use Rattle.shape.proofs.Rounds.{shaped-room, parse-words}
 use Rattle.area.specs.Finished.{unknownFault, finishedFault, areaFault}
@@ -91,7 +91,7 @@ module _ (map : List ℕ) (n m : ℕ) (order : Order) (x mask : List ℕ) (opens
     is-known = ap unknownFault (sym parsed) ∙ orElse-none _ _ (orElse-none _ _ (orElse-none _ _ (orElse-none _ _ fine .1) .1) .1) .0
 
     least : Least Forward map m (order .start) (order .target) (finished .optimum)
-    unfolding benchAt
+    unfolding benchAt opened
     least = go (optimum-cases ordered (turns Forward) (turns Backward))
       where
         go : Optimum ordered (turns Forward) (turns Backward) → Least Forward map m (order .start) (order .target) (finished .optimum)

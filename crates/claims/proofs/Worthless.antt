@@ -4,6 +4,7 @@ use mathlib.Core.List.{List}
 use Prim.Native.Nat.{ℕ}
 use native.Mathlib.Omega.{arith}
 use lib.ListN.{getD, replicate}
+use Rattle.map.specs.Walk.{bySide}
 use Rattle.map.specs.declared.Side.{Side}
 use Rattle.map.specs.declared.Side.the-variants.{Forward, Backward}
 use Rattle.half.specs.Half.{settledCount}
@@ -13,7 +14,6 @@ use Rattle.bench.specs.Areas.{areaMask}
 use Rattle.bench.specs.declared.Opening.the-variants as openings
 use Rattle.bench.specs.declared.Turn.the-variants as turns
 use Rattle.bench.proofs.Answers.{opening-same, turn-same}
-use Rattle.demands.specs.Mixture.{bySide}
 use Rattle.claims.specs.Five.{five}
 use Rattle.claims.specs.Worthless.{after, Worthless}
 use Rattle.claims.proofs.Computed.{computed}

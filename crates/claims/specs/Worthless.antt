@@ -3,6 +3,7 @@ use mathlib.Core.Path.{_≡_}
 use mathlib.Core.List.{List}
 use Prim.Native.Nat.{ℕ}
 use lib.ListN.{replicate}
+use Rattle.map.specs.Walk.{bySide}
 use Rattle.map.specs.declared.Side.{Side}
 use Rattle.half.specs.Half.{settledCount}
 use Rattle.shape.specs.Bench.{half, parse}
@@ -11,7 +12,6 @@ use Rattle.bench.specs.declared.Opening.{Opening}
 use Rattle.bench.specs.declared.Opening.the-variants as openings
 use Rattle.bench.specs.declared.Turn.{Turn}
 use Rattle.bench.specs.declared.Turn.the-variants as turns
-use Rattle.demands.specs.Mixture.{bySide}
 use Rattle.claims.specs.Five.{five, fiveAfter}
 use Rattle.claims.specs.Promises.{Open, TakeTurn, FillMask}
 

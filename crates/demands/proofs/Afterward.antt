@@ -9,11 +9,11 @@ use native.Mathlib.Omega.{arith}
 use borrow.Author.Tests.{eq-eqb}
 use lib.ListN.{length, getD, drop, List·getD-append}
 use Rattle.limits.specs.Limits.{Between}
-use Rattle.map.specs.Walk.{stay, Least}
+use Rattle.map.specs.Walk.{stay, Least, bySide}
 use Rattle.map.specs.declared.Side.{Side}
 use Rattle.map.specs.declared.Side.the-variants.{Forward, Backward}
 use Rattle.map.proofs.Walks.{least-unique}
-use Rattle.shape.specs.Bench.{Bench, root, words, WellShaped}
+use Rattle.shape.specs.Bench.{Bench, root, words, WellShaped, opened}
 use Rattle.shape.proofs.Rounds.{shaped-room, parse-words}
 use Rattle.trail.specs.Trail.{trail, Drive}
 use Rattle.route.specs.Area.{localIn, maskAt, maskIn, routeIn, routeOf}
@@ -23,7 +23,7 @@ use Rattle.area.specs.Finished.{areaFault, routeFault}
 use Rattle.bench.specs.Areas.{areaSaid, areaMask}
 use Rattle.bench.specs.Calls.{judged}
 use Rattle.bench.specs.Routes.{routeSaid, routePart}
-use Rattle.demands.specs.Mixture.{Order, bySide, benchAt}
+use Rattle.demands.specs.Mixture.{Order, benchAt}
 use Rattle.demands.specs.Demands.{InArea, Route, Finished, left}
 use Rattle.demands.specs.Trails.{InLocal, RouteThrough}
 use Rattle.demands.specs.Afterward.{Afterward, byteOf}
@@ -110,13 +110,13 @@ module _ {map : List ℕ} {n m start target stretch : ℕ} (order : Order map n 
   -- ---- the route
 
   root-of : (s : Side) → root s b ≡ bySide s start target
-  unfolding benchAt
+  unfolding benchAt opened
   root-of Forward = refl
   root-of Backward = refl
 
   drive : Finished map n m start target stretch b → (v : ℕ) → Between 1 n v → (p : InArea map m start target stretch v)
       → Drive Forward map m start target (routeOf map b v) (p .from + p .to)
-  unfolding benchAt
+  unfolding benchAt opened
   drive d v cv p =
       let there = settled-both order past i j d v cv p Forward in
       let on = settled-both order past i j d v cv p Backward in
@@ -131,7 +131,7 @@ module _ {map : List ℕ} {n m start target stretch : ℕ} (order : Order map n 
       (d, cv, demand-2-at order past i j .marked-area d v cv .0 one)
 
   trails : (v : ℕ) (buffer : List ℕ) → routeFault map n m (words b) v (length buffer) ≡ 0 → RouteThrough map m start target v (routePart map n m (words b) v buffer)
-  unfolding benchAt routeIn
+  unfolding benchAt opened routeIn
   trails v buffer z =
       let (d, cv, p) = asked v (length buffer) z in
       record {

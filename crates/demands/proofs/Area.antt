@@ -9,13 +9,13 @@ use borrow.Author.Tests.{eq-eqb, eqb-true, leb-true, le-leb}
 use lib.Dec.{eqb}
 use Rattle.limits.specs.Limits.{Between}
 use Rattle.limits.proofs.Cases.{and-both, cond-then}
-use Rattle.map.specs.Walk.{other, Walk, stay, Least}
+use Rattle.map.specs.Walk.{other, Walk, stay, Least, bySide}
 use Rattle.map.specs.declared.Side.{Side}
 use Rattle.map.specs.declared.Side.the-variants.{Forward, Backward}
 use Rattle.map.proofs.Walks.{least-unique, least-back}
 use Rattle.half.specs.Half.{unknown, ceiling, dist, state}
 use Rattle.shape.specs.Rules.{known, within, mark}
-use Rattle.demands.specs.Mixture.{Order, bySide}
+use Rattle.demands.specs.Mixture.{Order}
 use Rattle.demands.specs.Demands.{InArea}
 use Rattle.demands.proofs.Optimum.{known-low, known-unknown, root, goal, after, best, best-is, Best, route, none, best-cases, Route, route-best, route-goal, goal-in, settled-cost, optimum, Optimum, missing, present, optimum-cases}
 use Rattle.demands.proofs.Turns.{not-beyond, stops, in-reach, covers}

@@ -8,16 +8,16 @@ use native.Mathlib.Decide.{decLe}
 use native.Mathlib.Omega.{arith}
 use lib.ListN.{replicate}
 use Rattle.limits.specs.Limits.{Between}
-use Rattle.map.specs.Walk.{Least}
+use Rattle.map.specs.Walk.{Least, bySide}
 use Rattle.map.specs.declared.Side.{Side}
 use Rattle.map.specs.declared.Side.the-variants.{Forward, Backward}
 use Rattle.half.specs.Half.{unknown, ceiling, settledCount}
-use Rattle.shape.specs.Bench.{Bench, half, WellShaped}
+use Rattle.shape.specs.Bench.{Bench, half, WellShaped, opened}
 use Rattle.shape.specs.Rules.{done}
 use Rattle.shape.proofs.Marks.{marks-length, marks-at, marks-le}
 use Rattle.shape.proofs.Turns.{turned-done, turned-counts, done-stays}
 use Rattle.nearest.proofs.Theorems.{after-shaped, settled-nearest, root-settled, least-or-none, least-ceiling, link-tight, link-lowest}
-use Rattle.demands.specs.Mixture.{Order, bySide, turnsIn, benchAt}
+use Rattle.demands.specs.Mixture.{Order, turnsIn, benchAt}
 use Rattle.demands.specs.Demands.{InArea, NoWalk, Finished, markOf, left, Demand2, Sound, Demand3}
 use Rattle.demands.proofs.Optimum.{root, after, best-is, root-in, settled-cost, optimum, Optimum, missing, present, optimum-cases}
 use Rattle.demands.proofs.Turns.{stops, turns, reach-exactly, stops-some, turns-low, before-turns, at-turns, settled-turns}
@@ -29,7 +29,7 @@ module _ {map : List ℕ} {n m start target stretch : ℕ} (order : Order map n 
 
   module _ (i j : ℕ) where
     pub half-at : (s : Side) → half s (bench order past i j) ≡ after order s (bySide s i j)
-    unfolding benchAt
+    unfolding benchAt opened
     half-at Forward = refl
     half-at Backward = refl
 
@@ -42,11 +42,11 @@ module _ {map : List ℕ} {n m start target stretch : ℕ} (order : Order map n 
     -- ---- demand 2
 
     least-at : (s : Side) (o : ℕ) → done s (bench order past i j) ≡ true → Least Forward map m start target o → bench order past i j .optimum ≡ o
-    unfolding benchAt
+    unfolding benchAt opened
     least-at s o e p = finds order s i j (stopped s e) ∙ best-is order p
 
     none-at : (s : Side) → done s (bench order past i j) ≡ true → (bench order past i j .optimum ≡ unknown) ↔ NoWalk map n m start target stretch
-    unfolding benchAt
+    unfolding benchAt opened
     none-at s d = (
       λ e c w. ⊎-elim
           (λ (o, p). omega (arith, least-at s o d p, least-ceiling Forward map n m start (order .valid) (order .start-in) target o p))
@@ -57,7 +57,7 @@ module _ {map : List ℕ} {n m start target stretch : ℕ} (order : Order map n 
 
     area-at : Finished map n m start target stretch (bench order past i j) → (v : ℕ) → Between 1 n v
         → (markOf map n m start target stretch (bench order past i j) v ≡ 1) ↔ InArea map m start target stretch v
-    unfolding benchAt
+    unfolding benchAt opened
     area-at d v cv =
         let q = marks-at n stretch (optimum order i j) (after order Forward i) (after order Backward j) cv in (
           λ e. mark-sound order i j v cv (sym q ∙ e),
@@ -65,7 +65,7 @@ module _ {map : List ℕ} {n m start target stretch : ℕ} (order : Order map n 
         )
 
     unmarked-at : NoWalk map n m start target stretch → bench order past i j .marks ≡ replicate n 0
-    unfolding benchAt
+    unfolding benchAt opened
     unmarked-at f = rw (optimum-unknown order i j f) (unmarked n stretch _ _)
 
     pub demand-2-at : Demand2 map n m start target stretch (bench order past i j)
@@ -82,7 +82,7 @@ module _ {map : List ℕ} {n m start target stretch : ℕ} (order : Order map n 
     -- ---- sound
 
     shaped : WellShaped n m (bench order past i j)
-    unfolding benchAt
+    unfolding benchAt opened
     shaped =
         record {
           same-n = refl;
@@ -109,7 +109,7 @@ module _ {map : List ℕ} {n m start target stretch : ℕ} (order : Order map n 
         go zero e = absurd (omega (arith, ⊎-elim (λ d. stops-some order s (bySide s i j) (stopped s d)) (λ c. omega (arith, settled-at s (omega arith))) w))
 
     pub sound-at : Sound map n m start target stretch (bench order past i j)
-    unfolding benchAt
+    unfolding benchAt opened
     sound-at =
         record {
           well-shaped = shaped;

@@ -9,7 +9,7 @@ use native.Mathlib.Omega.{arith}
 use borrow.Author.Tests.{eq-eqb, ne-eqb}
 use lib.Dec.{eqb}
 use Rattle.limits.specs.Limits.{Between}
-use Rattle.map.specs.Walk.{other, Walk, Least}
+use Rattle.map.specs.Walk.{other, Walk, Least, bySide}
 use Rattle.map.specs.declared.Side.{Side}
 use Rattle.map.specs.declared.Side.the-variants.{Forward, Backward}
 use Rattle.map.proofs.Walks.{least-unique, least-back}
@@ -19,7 +19,7 @@ use Rattle.half.proofs.Counts.{Settles}
 use Rattle.shape.specs.Rules.{known, found}
 use Rattle.nearest.specs.After.{halfAfter}
 use Rattle.nearest.proofs.Theorems.{settles, settled-least, settled-reached, settled-once, all-done, least-or-none, least-ceiling, next-open, next-least, next-first}
-use Rattle.demands.specs.Mixture.{Order, bySide, settledDist, optimumOf}
+use Rattle.demands.specs.Mixture.{Order, settledDist, optimumOf}
 
 pub known-low : (o : ℕ) → o ≤ ceiling → known o ≡ true
 unfolding known

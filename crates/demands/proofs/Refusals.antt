@@ -13,10 +13,11 @@ use Rattle.limits.specs.First.{orElse}
 use Rattle.limits.specs.Limits.{Between, crossingFault, localityFault, roomFault}
 use Rattle.limits.proofs.Cases.{cond-both, cond-else}
 use Rattle.limits.proofs.Laws.{orElse-first, orElse-second, orElse-none, orElse-zero, none-orElse, orElse-both, outside-both, room-both, outside-none, none-outside, none-room}
+use Rattle.map.specs.Walk.{bySide}
 use Rattle.map.specs.declared.Side.{Side}
 use Rattle.map.specs.declared.Side.the-variants.{Forward, Backward}
 use Rattle.half.specs.Half.{unknown, ceiling}
-use Rattle.shape.specs.Bench.{Bench, half, words, parse, WellShaped}
+use Rattle.shape.specs.Bench.{Bench, half, words, parse, WellShaped, opened}
 use Rattle.shape.specs.Rules.{known, done}
 use Rattle.shape.proofs.Rounds.{shaped-room, parse-words}
 use Rattle.shaped.specs.Lent.{lentFault}
@@ -25,7 +26,7 @@ use Rattle.trail.proofs.Soundness.{sound-fault, marks-fault}
 use Rattle.route.specs.Area.{routeOf}
 use Rattle.area.specs.Finished.{doneFault, unknownFault, ruleFault, trailsFault, finishedFault, areaFault, askedFault, routeFault}
 use Rattle.area.proofs.Laws.{fault-done, done-fault}
-use Rattle.demands.specs.Mixture.{Order, bySide, benchAt}
+use Rattle.demands.specs.Mixture.{Order, benchAt}
 use Rattle.demands.specs.Demands.{InArea, Route, Finished, NoWalk}
 use Rattle.nearest.proofs.Theorems.{least-ceiling}
 use Rattle.demands.proofs.Optimum.{known-low, known-unknown}
@@ -74,15 +75,10 @@ module _ {map : List ℕ} {n m start target stretch : ℕ} (order : Order map n 
   pub sound-half : (s : Side) → done s b ≡ true → SoundHalf s map n m (bySide s start target) (half s b)
   sound-half s d =
       let p = sound-at order past i j in
-      record {
-        root-is = p .root-settled s (inl d);
-        named = λ v cv ne e.
-            let t = p .linked s v cv ne e in
-            record { link-in = t .inside; into = t .comes; from = t .from; tight = sym (t .exact) };
-      }
+      record { root-is = p .root-settled s (inl d); named = p .linked s }
 
   trails-fine : ((s : Side) → done s b ≡ true) → trailsFault map n m b ≡ 0
-  unfolding trailsFault ruleFault benchAt
+  unfolding trailsFault ruleFault benchAt opened
   trails-fine d =
       none-orElse _ _ (sound-fault Forward map n m start _ (sound-half Forward (d Forward)))
       (none-orElse _ _ (sound-fault Backward map n m target _ (sound-half Backward (d Backward)))

@@ -8,6 +8,7 @@ use Prim.Native.Nat.{ℕ, zero, suc, _+_, min}
 use native.Mathlib.Decide.{decLe}
 use native.Mathlib.Omega.{arith}
 use lib.ListN.{replicate}
+use Rattle.map.specs.Walk.{bySide}
 use Rattle.map.specs.declared.Side.{Side}
 use Rattle.map.specs.declared.Side.the-variants.{Forward, Backward}
 use Rattle.half.specs.Half.{unknown, nearestOpen}
@@ -16,7 +17,7 @@ use Rattle.shape.specs.Rules.{done, mark, listFrom, marksOf, marked, settledBy,
 use Rattle.shape.proofs.Turns.{turned-done, turned-settles}
 use Rattle.nearest.specs.After.{halfAfter}
 use Rattle.nearest.proofs.Theorems.{after-some}
-use Rattle.demands.specs.Mixture.{Order, run, turnsIn, bySide, optimumOf, benchAt}
+use Rattle.demands.specs.Mixture.{Order, run, turnsIn, optimumOf, benchAt}
 use Rattle.demands.proofs.Optimum.{known-unknown, after, next, own, own-word, optimum, Optimum, missing, present, optimum-cases, optimum-opened, found-more}
 use Rattle.demands.proofs.Turns.{stops, stops-same, turns, going, before-turns, at-turns}
 
@@ -37,7 +38,7 @@ module _ {map : List ℕ} {n m start target stretch : ℕ} (order : Order map n 
 
   -- whether a half is done depends on its own count alone
   pub done-stops : (s : Side) (i j : ℕ) → done s (bench i j) ≡ stops order s (bySide s i j)
-  unfolding done benchAt
+  unfolding done benchAt opened
   done-stops s i j = go s (optimum-cases order i j)
     where
       go : (s : Side) → Optimum order i j → done s (bench i j) ≡ stops order s (bySide s i j)
@@ -50,7 +51,7 @@ module _ {map : List ℕ} {n m start target stretch : ℕ} (order : Order map n 
   one-more s i j = bench (bySide s (suc i) i) (bySide s j (suc j))
 
   settled-more : (s : Side) (i j : ℕ) → next order s (bySide s i j) ≢ 0 → settledBy s map (nearestOpen n (half s (bench i j))) (bench i j) ≡ one-more s i j
-  unfolding benchAt optimumOf
+  unfolding benchAt opened optimumOf
   settled-more Forward i j ne =
       ap₂ (λ o h. marked (bench i j) o h (after order Backward j))
       (found-more order Forward i (own order Backward j) _ ne (own-word order Backward j) refl)
@@ -64,7 +65,7 @@ module _ {map : List ℕ} {n m start target stretch : ℕ} (order : Order map n 
   turn-done s i j e = turned-done s map (bench i j) (done-stops s i j ∙ e)
 
   pub turn-more : (s : Side) (i j : ℕ) → stops order s (bySide s i j) ≡ false → turned s map (bench i j) ≡ one-more s i j
-  unfolding benchAt
+  unfolding benchAt opened
   turn-more s i j e = turned-settles s map (bench i j) (done-stops s i j ∙ e) ∙ settled-more s i j (going order s (bySide s i j) e .0)
 
   -- ---- any mixture of turns

@@ -10,7 +10,7 @@ use borrow.Author.Tests.{eq-eqb, eqb-true, leb-true, leb-false}
 use lib.Dec.{leb}
 use Rattle.limits.specs.Limits.{Between}
 use Rattle.limits.proofs.Cases.{cond-cases}
-use Rattle.map.specs.Walk.{other, near}
+use Rattle.map.specs.Walk.{other, near, bySide}
 use Rattle.map.specs.declared.Side.{Side}
 use Rattle.map.specs.declared.Side.the-variants.{Forward, Backward}
 use Rattle.map.proofs.Walks.{near-in, least-unique, least-back}
@@ -22,7 +22,7 @@ use Rattle.trail.specs.Trail.{trail, Settled, Trails}
 use Rattle.trail.proofs.Walking.{trail-induct}
 use Rattle.trail.proofs.Soundness.{link-root, sound-trails}
 use Rattle.route.specs.Area.{tested, agreesAt, agrees, every, localIn}
-use Rattle.demands.specs.Mixture.{Order, bySide}
+use Rattle.demands.specs.Mixture.{Order}
 use Rattle.demands.specs.Demands.{InArea, Route, Finished}
 use Rattle.demands.specs.Trails.{Away, Lowest, Trail, at-root, by-link, Optimal, InLocal}
 use Rattle.demands.proofs.Run.{bench}

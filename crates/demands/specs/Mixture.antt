@@ -6,12 +6,13 @@ use Prim.Native.Nat.{ℕ, suc, min}
 use lib.Dec.{eqb}
 use Rattle.limits.specs.Limits.{Between}
 use Rattle.map.specs.Map.{Valid}
+use Rattle.map.specs.Walk.{bySide}
 use Rattle.map.specs.declared.Side.{Side}
 use Rattle.map.specs.declared.Side.the-variants.{Forward, Backward}
 use Rattle.half.specs.Fold.{tally}
 use Rattle.half.specs.Half.{unknown, dist, state}
-use Rattle.shape.specs.Bench.{Bench}
-use Rattle.shape.specs.Rules.{beyond, marksOf, turned}
+use Rattle.shape.specs.Bench.{Bench, opened}
+use Rattle.shape.specs.Rules.{beyond, marked, turned}
 use Rattle.nearest.specs.After.{halfAfter}
 
 -- "open a bench for one order": start, target and stretch in their ranges, on a valid map of n crossings and m links
@@ -20,11 +21,6 @@ pub record Order (map : List ℕ) (n m start target stretch : ℕ) : Type 0 wher
   pub start-in : Between 1 n start
   pub target-in : Between 1 n target
   pub stretch-in : Between 1000 4000 stretch
-
--- what is the forward half's, or the backward half's
-abbrev pub bySide : {A : Type 0} → Side → A → A → A
-bySide Forward a b = a
-bySide Backward a b = b
 
 -- ---- "any mixture of their turns"
 
@@ -56,19 +52,7 @@ unfoldable pub benchAt : List ℕ → ℕ → ℕ → ℕ → ℕ → ℕ → Li
 benchAt map n m start target stretch past i j =
     let f = halfAfter Forward map n m start i in
     let g = halfAfter Backward map n m target j in
-    let optimum = optimumOf n start target f g in
-    record {
-      n = n;
-      m = m;
-      start = start;
-      target = target;
-      stretch = stretch;
-      optimum = optimum;
-      forward = f;
-      backward = g;
-      marks = marksOf n stretch optimum f g;
-      past = past;
-    }
+    marked (opened n m start target stretch past) (optimumOf n start target f g) f g
 
 -- ---- how many crossings a half settles until it is done
 

@@ -6,10 +6,9 @@ use Prim.Native.Nat.{ℕ, _+_, _≤_}
 use lib.ListN.{drop}
 use Rattle.limits.specs.Limits.{Between}
 use Rattle.map.specs.Map.{cost}
-use Rattle.map.specs.Walk.{other, near, far, Walk, Least}
+use Rattle.map.specs.Walk.{other, near, far, Walk, Least, bySide}
 use Rattle.map.specs.declared.Side.{Side}
 use Rattle.map.specs.declared.Side.the-variants.{Forward, Backward}
-use Rattle.demands.specs.Mixture.{bySide}
 use Rattle.demands.specs.Demands.{InArea}
 
 module _ (map : List ℕ) (m start target : ℕ) where

@@ -86,6 +86,13 @@ unfoldable pub settledAt : Side → List ℕ → ℕ → ℕ → ℕ → List �
 settledAt side map n m x h =
     upTo (relaxed side map n x (dist h x)) m (put n h x (record { dist = dist h x; link = link n h x; state = 2 }))
 
+-- link k comes to v from a settled crossing, the distance of v being exactly that crossing's plus the cost
+pub record Tight (side : Side) (map : List ℕ) (n m : ℕ) (h : List ℕ) (v k : ℕ) : Type 0 where
+  pub inside : Between 1 m k
+  pub comes : far side map k ≡ v
+  pub from : state n h (near side map k) ≡ 2
+  pub exact : dist h (near side map k) + cost map k ≡ dist h v
+
 -- how many crossings are settled
 unfoldable pub settledCount : ℕ → List ℕ → ℕ
 settledCount n h = tally (λ v. cond (eqb (state n h v) 2) 1 0) n

@@ -12,6 +12,11 @@ unfoldable pub other : Side → Side
 other Forward = Backward
 other Backward = Forward
 
+-- what is the forward side's, or the backward side's
+abbrev pub bySide : {A : Type 0} → Side → A → A → A
+bySide Forward a b = a
+bySide Backward a b = b
+
 -- the end of link k that a side leaves, and the end that it comes to
 unfoldable pub near : Side → List ℕ → ℕ → ℕ
 near Forward map k = tail map k

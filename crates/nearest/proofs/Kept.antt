@@ -11,13 +11,12 @@ use Rattle.map.specs.Map.{cost, Valid}
 use Rattle.map.specs.Walk.{near, far}
 use Rattle.map.specs.declared.Side.{Side}
 use Rattle.map.proofs.Walks.{near-in, far-in}
-use Rattle.half.specs.Half.{ceiling, unknown, dist, link, state, entry, openHalf, settledAt, settledCount, Shaped, unseen, seen, ShapedHalf, Before}
+use Rattle.half.specs.Half.{ceiling, unknown, dist, link, state, entry, openHalf, settledAt, settledCount, Shaped, unseen, seen, ShapedHalf, Before, Tight}
 use Rattle.half.specs.declared.Entry.{Entry}
 use Rattle.half.proofs.Rule1.{First}
 use Rattle.half.proofs.Opening.{open-root, open-other}
 use Rattle.half.proofs.Counts.{Settles, settledAt-settles, settles-count}
 use Rattle.half.proofs.Shape.{open-shaped, settledAt-shaped}
-use Rattle.nearest.specs.Tight.{Tight}
 use Rattle.nearest.proofs.Offers.{before-trans, Held, From, old, new, Step, settledAt-step}
 use Rattle.nearest.proofs.Counting.{two-unsettled}
 

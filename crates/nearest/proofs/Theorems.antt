@@ -12,13 +12,12 @@ use Rattle.map.specs.Map.{cost, Valid}
 use Rattle.map.specs.Walk.{other, near, far, Walk, Least}
 use Rattle.map.specs.declared.Side.{Side}
 use Rattle.map.proofs.Walks.{near-in, least-unique, least-back}
-use Rattle.half.specs.Half.{ceiling, dist, link, state, entry, openHalf, nearestOpen, settledAt, settledCount, ShapedHalf, Shaped, unseen, seen, Before}
+use Rattle.half.specs.Half.{ceiling, dist, link, state, entry, openHalf, nearestOpen, settledAt, settledCount, ShapedHalf, Shaped, unseen, seen, Before, Tight}
 use Rattle.half.specs.declared.Entry.{Entry}
 use Rattle.half.proofs.Rule1.{First, nearest-open, none-open, nearest-first}
 use Rattle.half.proofs.Counts.{Settles, settledAt-settles, settles-count, settledCount-le}
 use Rattle.half.proofs.Opening.{open-root}
 use Rattle.nearest.specs.After.{settledIf, halfAfter}
-use Rattle.nearest.specs.Tight.{Tight}
 use Rattle.nearest.proofs.Offers.{Held, before-trans}
 use Rattle.nearest.proofs.Counting.{none-settled}
 use Rattle.nearest.proofs.Kept.{Source, at-root, by-link, Kept, under, settledAt-kept, open-unsettled, open-kept}

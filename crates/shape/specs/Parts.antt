@@ -1,8 +1,8 @@
 -- A bench in which some of its parts are others, the rest as it was. Assumes nothing.
 use mathlib.Core.List.{List}
 use Prim.Native.Nat.{ℕ}
+use Rattle.map.specs.Walk.{bySide}
 use Rattle.map.specs.declared.Side.{Side}
-use Rattle.map.specs.declared.Side.the-variants.{Forward, Backward}
 use Rattle.shape.specs.Bench.{Bench}
 
 -- the six words before the halves
@@ -39,11 +39,6 @@ withParts optimum forward backward marks b =
 
 abbrev pub withOptimum : ℕ → Bench → Bench
 withOptimum optimum b = withParts optimum (b .forward) (b .backward) (b .marks) b
-
--- the forward one of two, or the backward one
-abbrev pub bySide : Side → List ℕ → List ℕ → List ℕ
-bySide Forward f g = f
-bySide Backward f g = g
 
 abbrev pub withHalf : Side → List ℕ → Bench → Bench
 withHalf s p b = withParts (b .optimum) (bySide s p (b .forward)) (bySide s (b .backward) p) (b .marks) b

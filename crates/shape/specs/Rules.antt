@@ -8,6 +8,7 @@ use Rattle.map.specs.declared.Side.{Side}
 use Rattle.map.specs.declared.Side.the-variants.{Forward, Backward}
 use Rattle.half.specs.Half.{unknown, dist, state, nearestOpen, settledAt}
 use Rattle.shape.specs.Bench.{Bench, half, root}
+use Rattle.shape.specs.Parts.{withParts}
 
 -- the one comparison with stretch times optimum: 1,000 x (a + b) <= stretch x optimum
 unfoldable pub within : ℕ → ℕ → ℕ → ℕ → Bool
@@ -55,19 +56,7 @@ marksOf n stretch optimum f g = listFrom (mark n stretch optimum f g) 1 n
 
 -- the bench with this optimum, these halves, and the marks of rule 4
 abbrev pub marked : Bench → ℕ → List ℕ → List ℕ → Bench
-marked b optimum f g =
-    record {
-      n = b .n;
-      m = b .m;
-      start = b .start;
-      target = b .target;
-      stretch = b .stretch;
-      optimum = optimum;
-      forward = f;
-      backward = g;
-      marks = marksOf (b .n) (b .stretch) optimum f g;
-      past = b .past;
-    }
+marked b optimum f g = withParts optimum f g (marksOf (b .n) (b .stretch) optimum f g) b
 
 -- the bench with the marks of rule 4, all else as it stands
 abbrev pub remarked : Bench → Bench

@@ -86,4 +86,4 @@ trail-drive side map n m root h valid shaped sound =
     more v s nz r =
         let k = link n h v in
         let w = link-name side map n m root h valid shaped sound v s nz in
-        goes {c = dist h v} k (w .link-in) (near-other side map k ∙ w .into) (far-other side map k) refl r (omega (arith, w .tight))
+        goes {c = dist h v} k (w .inside) (near-other side map k ∙ w .comes) (far-other side map k) refl r (omega (arith, w .exact))

@@ -19,13 +19,13 @@ use Rattle.map.specs.declared.Side.{Side}
 use Rattle.map.specs.declared.Side.the-variants.{Forward, Backward}
 use Rattle.map.proofs.Walks.{near-in}
 use Rattle.half.specs.Fold.{upTo}
-use Rattle.half.specs.Half.{dist, link, state, entry, ShapedHalf}
+use Rattle.half.specs.Half.{dist, link, state, entry, ShapedHalf, Tight}
 use Rattle.half.specs.declared.Entry.{Entry}
 use Rattle.half.proofs.Folds.{last-or}
 use Rattle.shape.specs.Bench.{Bench, half, root, WellShaped}
 use Rattle.shape.specs.Rules.{known, within, mark, marksOf}
 use Rattle.shape.proofs.Marks.{marks-length, marks-at}
-use Rattle.trail.specs.Sound.{Named, SoundHalf, faults, rootFault, tightFault, namedFault, soundAt, soundFault, marksSound, markFault, marksFault}
+use Rattle.trail.specs.Sound.{SoundHalf, faults, rootFault, tightFault, namedFault, soundAt, soundFault, marksSound, markFault, marksFault}
 use Rattle.trail.specs.Trail.{Settled, Trails, Walkable}
 use Rattle.trail.proofs.Tests.{seven-none}
 use Rattle.trail.proofs.Checks.{settled-low, tight-right, named-by, sound-root, sound-unsettled, sound-settled}
@@ -58,7 +58,7 @@ unfolding rootFault
 entry-root e z = rw z
 
 module _ (side : Side) (map : List ℕ) (n m root : ℕ) (h : List ℕ) where
-  named-link : (v : ℕ) → namedFault side map n m h v (dist h v) (link n h v) ≡ 0 → Named side map n m h v
+  named-link : (v : ℕ) → namedFault side map n m h v (dist h v) (link n h v) ≡ 0 → Tight side map n m h v (link n h v)
   unfolding namedFault tightFault
   named-link v z =
       let a = cond-then {b = 7} {x = 0} _ z (λ y. omega arith) in
@@ -66,16 +66,16 @@ module _ (side : Side) (map : List ℕ) (n m root : ℕ) (h : List ℕ) where
       let p = and-both _ _ (seven-none _ (a .1)) in
       let q = and-both _ _ (p .1) in
       record {
-        link-in = record { least = leb-true _ _ (b .0); most = leb-true _ _ (b .1) };
-        into = eqb-true _ _ (p .0);
+        inside = record { least = leb-true _ _ (b .0); most = leb-true _ _ (b .1) };
+        comes = eqb-true _ _ (p .0);
         from = eqb-true _ _ (q .0);
-        tight = eqb-true _ _ (q .1);
+        exact = sym (eqb-true _ _ (q .1));
       }
 
-  link-named : (v : ℕ) → Named side map n m h v → 0 ≡ namedFault side map n m h v (dist h v) (link n h v)
+  link-named : (v : ℕ) → Tight side map n m h v (link n h v) → 0 ≡ namedFault side map n m h v (dist h v) (link n h v)
   link-named v r =
-      named-by side map n m h v (dist h v) (link n h v) (r .link-in .least) (r .link-in .most)
-      (tight-right side map n h v (dist h v) (link n h v) refl (r .into) refl refl (r .from) (sym (r .tight)))
+      named-by side map n m h v (dist h v) (link n h v) (r .inside .least) (r .inside .most)
+      (tight-right side map n h v (dist h v) (link n h v) refl (r .comes) refl refl (r .from) (r .exact))
 
   pub fault-sound : Between 1 n root → soundFault side map n m root h ≡ 0 → SoundHalf side map n m root h
   unfolding soundFault
@@ -101,9 +101,9 @@ module _ (side : Side) (map : List ℕ) (n m root : ℕ) (h : List ℕ) where
 
   module _ (valid : Valid n m map) (shaped : ShapedHalf n m h) (sound : SoundHalf side map n m root h) where
     pub link-root : (v : ℕ) → Settled n h v → link n h v ≡ 0 → v ≡ root
-    link-root v s z = dite (ℕ-discrete v root) (λ e. e) (λ ne. absurd (omega (arith, sound .named v (s .inside) ne (s .settled) .link-in)))
+    link-root v s z = dite (ℕ-discrete v root) (λ e. e) (λ ne. absurd (omega (arith, sound .named v (s .inside) ne (s .settled) .inside)))
 
-    pub link-name : (v : ℕ) → Settled n h v → link n h v ≢ 0 → Named side map n m h v
+    pub link-name : (v : ℕ) → Settled n h v → link n h v ≢ 0 → Tight side map n m h v (link n h v)
     link-name v s nz =
         sound .named v (s .inside) (λ e. nz (ap (link n h) e ∙ ap (λ (f : Entry). f .link) (sound .root-is))) (s .settled)
 
@@ -114,8 +114,8 @@ module _ (side : Side) (map : List ℕ) (n m root : ℕ) (h : List ℕ) where
           low = λ v s. settled-low shaped v (s .inside) (s .settled);
           onward = λ v s nz.
               let r = link-name v s nz in
-              let t = r .tight in
-              let i = r .link-in in
+              let t = r .exact in
+              let i = r .inside in
               record {
                 room = omega (arith, valid .room);
                 next = record { inside = near-in valid side (link n h v) i; settled = r .from };

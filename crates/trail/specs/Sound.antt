@@ -12,7 +12,7 @@ use Rattle.map.specs.Map.{cost}
 use Rattle.map.specs.Walk.{near, far}
 use Rattle.map.specs.declared.Side.{Side}
 use Rattle.half.specs.Fold.{upTo}
-use Rattle.half.specs.Half.{dist, link, state, entry}
+use Rattle.half.specs.Half.{dist, link, state, entry, Tight}
 use Rattle.half.specs.declared.Entry.{Entry}
 use Rattle.shape.specs.Bench.{Bench}
 use Rattle.shape.specs.Rules.{mark, marksOf}
@@ -20,15 +20,9 @@ use Rattle.shape.specs.Rules.{mark, marksOf}
 -- ---- one half: the root is settled at distance 0 with link number 0, every other settled crossing names a link into it (backward: out of it)
 -- whose other end is settled there, the distance being exactly that end's plus the cost
 
-pub record Named (side : Side) (map : List ℕ) (n m : ℕ) (h : List ℕ) (v : ℕ) : Type 0 where
-  pub link-in : Between 1 m (link n h v)
-  pub into : far side map (link n h v) ≡ v
-  pub from : state n h (near side map (link n h v)) ≡ 2
-  pub tight : dist h v ≡ dist h (near side map (link n h v)) + cost map (link n h v)
-
 pub record SoundHalf (side : Side) (map : List ℕ) (n m root : ℕ) (h : List ℕ) : Type 0 where
   pub root-is : entry n h root ≡ record { dist = 0; link = 0; state = 2 }
-  pub named : (v : ℕ) → Between 1 n v → v ≢ root → state n h v ≡ 2 → Named side map n m h v
+  pub named : (v : ℕ) → Between 1 n v → v ≢ root → state n h v ≡ 2 → Tight side map n m h v (link n h v)
 
 -- ---- its check
 
