@@ -1,15 +1,13 @@
--- The ways that the mask's values go; its length and range; with locality 0 every marked crossing is in BL. Assumes nothing.
+-- The ways that the mask's values go, and its length; with locality 0 every marked crossing is in BL. Assumes nothing.
 use mathlib.Core.Path.{_≡_, refl, sym, _∙_, ap}
-use mathlib.Core.Bool.{Bool, true, false, _&&_}
+use mathlib.Core.Bool.{Bool, true, false}
 use mathlib.Core.Logic.{_≢_}
 use mathlib.Core.List.{List}
-use Prim.Native.Nat.{ℕ, _+_, _-_, _≤_}
+use Prim.Native.Nat.{ℕ, _+_, _-_}
 use native.Mathlib.Omega.{arith}
-use lib.Dec.{eqb}
 use lib.ListN.{length, getD}
 use borrow.Author.Tests.{eq-eqb, ne-eqb}
 use Rattle.limits.specs.Limits.{Between}
-use Rattle.limits.proofs.Cases.{cond-both}
 use Rattle.map.specs.declared.Side.the-variants.{Forward, Backward}
 use Rattle.trail.specs.Trail.{Walkable}
 use Rattle.shape.proofs.Marks.{list-length, list-at}
@@ -34,13 +32,6 @@ module _ (map : List ℕ) (n locality : ℕ) (f g marks : List ℕ) (x : ℕ) wh
       pub mask-both : t ≡ true → 2 ≡ maskAt map n locality f g marks x
       unfolding maskAt
       mask-both e = simp (eq-eqb _ _ one, sym p ∙ y, sym q ∙ e)
-
-  pub mask-most : maskAt map n locality f g marks x ≤ 2
-  unfolding maskAt
-  mask-most =
-      cond-both (λ (c : ℕ). c ≤ 2) (eqb (getD marks (x - 1) 0) 1)
-      (cond-both (λ (c : ℕ). c ≤ 2) (localIn Forward map n locality f g x && localIn Backward map n locality g f x) {a = 2} {b = 1} (omega arith) (omega arith))
-      (omega arith)
 
 module _ (map : List ℕ) (n locality : ℕ) (f g marks : List ℕ) where
   pub mask-length : length (maskIn map n locality f g marks) ≡ n

@@ -1,4 +1,4 @@
--- What a turn keeps and changes: the shape of a bench, a half that is done, the words of the other half, one more settled. Assumes nothing.
+-- What a turn keeps and changes: the shape of a bench, a half that is done, one more settled. Assumes nothing.
 use mathlib.Core.Path.{_≡_, refl, sym, _∙_, subst⁻¹, subst₂}
 use mathlib.Core.Bool.{Bool, true, false, cond, not, _&&_, true≢false, and-eq-true-iff}
 use mathlib.Core.Logic.{_⊎_, inr}
@@ -10,7 +10,6 @@ use borrow.Author.Tests.{eqb-false}
 use Rattle.limits.specs.Limits.{Between}
 use Rattle.limits.proofs.Cases.{cond-both, cond-cases, cond-else}
 use Rattle.map.specs.Map.{Valid}
-use Rattle.map.specs.Walk.{other}
 use Rattle.map.specs.declared.Side.{Side}
 use Rattle.map.specs.declared.Side.the-variants.{Forward, Backward}
 use Rattle.half.specs.Half.{unknown, ceiling, dist, state, settledAt, settledCount, Shaped, unseen, seen, ShapedHalf}
@@ -48,11 +47,6 @@ next-first s b e =
 pub settledBy-half : (s : Side) (map : List ℕ) (x : ℕ) (b : Bench) → half s (settledBy s map x b) ≡ settledAt s map (b .n) (b .m) x (half s b)
 settledBy-half Forward map x b = refl
 settledBy-half Backward map x b = refl
-
-settledBy-other : (s : Side) (map : List ℕ) (x : ℕ) (b : Bench) → half (other s) (settledBy s map x b) ≡ half (other s) b
-unfolding other
-settledBy-other Forward map x b = refl
-settledBy-other Backward map x b = refl
 
 -- ---- done stays
 
