@@ -1,0 +1,104 @@
+//! All sides give the same answers and leave the same memory, before anything is timed.
+
+use crate::grid::Random;
+use crate::order::Order;
+use crate::plain::{self, Side};
+use crate::reader;
+use sankayop::{Filling, Reading, Turn};
+
+/// The readers on the text, and on the text with one byte changed.
+fn readers(order: &Order, random: &mut Random) {
+    let mut text = order.text.clone();
+    for _ in 0..200 {
+        let (mut ours, mut others) = (vec![7; order.map.len()], vec![7; order.map.len()]);
+        let answer = match sankayop::read(&text, &mut ours) {
+            Reading::Read { n, m } => Ok((n, m)),
+            Reading::Refused(refusal, line) => Err((refusal.number(), line)),
+        };
+        assert_eq!(
+            answer,
+            reader::read(&text, &mut others),
+            "the readers answer differently"
+        );
+        assert_eq!(ours, others, "the readers write different maps");
+        text.copy_from_slice(&order.text);
+        let at = random.below(text.len() as u32) as usize;
+        text[at] = random.pick(b"0123456789 acps\n\r");
+    }
+}
+
+/// One turn by each side on a bench of its own; whether the half is done.
+fn turns(order: &mut Order, side: Side) -> bool {
+    let mut bench = order.bench.clone();
+    let plain = plain::turn(&order.map, order.n, order.m, side, &mut bench);
+    let answer = match order.turn(side) {
+        Turn::Settled { crossing, distance } => Ok(Some((crossing, distance))),
+        Turn::Done => Ok(None),
+        Turn::Refused(refusal) => Err(refusal.number()),
+    };
+    assert_eq!(answer, plain, "the turns answer differently");
+    assert_eq!(order.bench, bench, "the turns leave different benches");
+    answer == Ok(None)
+}
+
+fn areas(order: &mut Order) {
+    let Order {
+        n,
+        m,
+        ref map,
+        ref bench,
+        locality,
+        ..
+    } = *order;
+    let mut mask = order.mask.clone();
+    let plain = plain::area(map, n, m, bench, locality, &mut mask);
+    let answer = match sankayop::area(map, n, m, bench, locality, &mut order.mask) {
+        Filling::Area => Ok(()),
+        Filling::Refused(refusal) => Err(refusal.number()),
+    };
+    assert_eq!(answer, plain, "the areas answer differently");
+    assert_eq!(order.mask, mask, "the areas fill different masks");
+}
+
+/// The whole order, step by step.
+fn wholes(order: &mut Order) {
+    order.plain_open();
+    let opened = order.bench.clone();
+    order.open();
+    assert_eq!(order.bench, opened, "the opened benches differ");
+    while !(turns(order, Side::Forward) & turns(order, Side::Backward)) {}
+    areas(order);
+    let mask = order.mask.clone();
+    assert_eq!(
+        order.heap_whole(),
+        order.bench[sankayop::OPTIMUM_AT],
+        "the heap finds another optimum"
+    );
+    assert_eq!(order.mask, mask, "the heap finds another area");
+}
+
+/// Turns and areas on the map and the bench with one word changed, so that their checks agree too.
+fn damaged(order: &mut Order, random: &mut Random) {
+    for _ in 0..500 {
+        let (map, bench) = (order.map.clone(), order.bench.clone());
+        let word = random.pick(&[0, 1, 2, 3, order.n, order.n + 1, 70_000, u32::MAX]);
+        let lent = if random.below(4) == 0 {
+            &mut order.map
+        } else {
+            &mut order.bench
+        };
+        let at = random.below(lent.len() as u32) as usize;
+        lent[at] = word;
+        areas(order);
+        turns(order, Side::Forward);
+        turns(order, Side::Backward);
+        (order.map, order.bench) = (map, bench);
+    }
+}
+
+pub fn check(order: &mut Order) {
+    let mut random = Random(1);
+    readers(order, &mut random);
+    wholes(order);
+    damaged(order, &mut random);
+}
