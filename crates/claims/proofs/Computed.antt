@@ -1,5 +1,5 @@
 -- One name for all the definitions that a computed claim opens: `unfolding computed` unfolds them. Assumes nothing.
-use Rattle.limits.specs.First.{orElse, firstFrom}
+use Rattle.limits.specs.First.{orElse, firstFrom, allFine}
 use Rattle.limits.specs.Limits.{numberOutside, roomFault}
 use Rattle.map.specs.Map.{tail, head, cost, endsFault, linkFault, countsFault, mapFault}
 use Rattle.map.specs.Walk.{other, near, far}
@@ -22,12 +22,12 @@ use Rattle.demands.specs.Calls.{turnsWords}
 use Rattle.claims.specs.Five.{fiveAfter, crossingsFrom, areaShown, routeShown, shown, rowShows, rowSays, each, rows}
 
 unfoldable pub computed : Unit {0}
-unfolding orElse firstFrom numberOutside roomFault tail head cost endsFault linkFault countsFault mapFault other near far upTo tally
+unfolding orElse firstFrom allFine numberOutside roomFault tail head cost endsFault linkFault countsFault mapFault other near far upTo tally
     dist link state put blank openHalf nearer nearestOpen offered relaxed settledAt settledCount words parse opened
     within known beyond done found mark listFrom marksOf turned turnTold
-    shape.unlike shape.allFine shape.unseenFault shape.seenFault shape.entryFault shape.halfFault shape.marksFault shape.sizeFault
+    shape.unlike shape.unseenFault shape.seenFault shape.entryFault shape.halfFault shape.marksFault shape.sizeFault
     shape.endsFault shape.optimumFault shape.headFault shape.shapeFault
-    sound.faults sound.rootFault sound.tightFault sound.namedFault sound.soundAt sound.soundFault sound.markFault sound.marksFault
+    sound.rootFault sound.tightFault sound.namedFault sound.soundAt sound.soundFault sound.markFault sound.marksFault
     after trailFrom tested agreesAt agrees every localIn maskAt maskIn routeIn
     doneFault unknownFault ruleFault trailsFault finishedFault lentFault areaFault askedFault routeFault
     judged orderFault openFault openSaid openWords turnFault turnSaid turnWords areaSaid areaMask routeSaid routePart

@@ -1,4 +1,5 @@
 pub mod Cases
 pub mod Laws
+pub mod Fine
 pub mod Lists
 pub mod Said

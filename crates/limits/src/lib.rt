@@ -1,5 +1,7 @@
 // The ranges of the numbers of a road map and of an order, each with its number of refusal; 0 stands for no refusal.
 ghost use mathlib.Core.Path.{_≡_};
+ghost use mathlib.Core.Bool.{_&&_};
+ghost use lib.Dec.{eqb};
 ghost use Rattle.limits.specs.First.{orElse};
 ghost use Rattle.limits.specs.Limits.{numberOutside, nFault, mFault, crossingFault, costFault, stretchFault, localityFault, roomFault};
 
@@ -8,6 +10,13 @@ pub fn or_else(a: u32, b: u32) -> u32
     ensures { λ r. ⌜ r ≡ orElse a b ⌝ }
 {
     if a == 0 { b } else { a }
+}
+
+// Whether all is fine so far, for loops over many places that leave early at none: so the compiler takes several places at a time.
+pub fn still_fine(fine: bool, fault: u32) -> bool
+    ensures { λ r. ⌜ r ≡ (fine && eqb fault 0) ⌝ }
+{
+    if fine { fault == 0 } else { false }
 }
 
 // The number where x lies outside low to high.

@@ -2,7 +2,7 @@
 ghost use mathlib.Core.Path.{_≡_};
 ghost use Prim.Native.Nat.{_*_, _≤_};
 ghost use lib.ListN.{length};
-ghost use Rattle.limits.specs.First.{firstFrom};
+ghost use Rattle.limits.specs.First.{firstFrom, allFine};
 ghost use Rattle.map.specs.Map.{linkFault, mapFault};
 
 // Which way links are driven: from tail to head, or from head to tail.
@@ -23,8 +23,22 @@ fn link_fault(map: &[u32], n: u32, k: usize) -> u32
     limits::or_else(limits::or_else(tail, head), cost)
 }
 
+// Whether links 1 to m are all without fault.
+fn links_fine(map: &[u32], n: u32, m: usize) -> bool
+    requires { ⌜ 3 * m ≤ length (now map) ⌝ }
+    ensures { λ r. ⌜ r ≡ allFine (linkFault n (now (map .entry))) m ⌝ }
+{
+    let mut fine = true;
+    let mut k: usize = 0;
+    while k < m {
+        k += 1;
+        fine = limits::still_fine(fine, link_fault(map, n, k));
+    }
+    fine
+}
+
 // The first number of refusal of links 1 to m.
-fn links_fault(map: &[u32], n: u32, m: usize) -> u32
+fn first_fault(map: &[u32], n: u32, m: usize) -> u32
     requires { ⌜ 3 * m ≤ length (now map) ⌝ }
     ensures { λ r. ⌜ r ≡ firstFrom (linkFault n (now (map .entry))) 1 m ⌝ }
 {
@@ -37,6 +51,17 @@ fn links_fault(map: &[u32], n: u32, m: usize) -> u32
         k += 1;
     }
     0
+}
+
+// The same. That a map has none is asked first, as it is told several links at a time.
+fn links_fault(map: &[u32], n: u32, m: usize) -> u32
+    requires { ⌜ 3 * m ≤ length (now map) ⌝ }
+    ensures { λ r. ⌜ r ≡ firstFrom (linkFault n (now (map .entry))) 1 m ⌝ }
+{
+    if links_fine(map, n, m) {
+        return 0;
+    }
+    first_fault(map, n, m)
 }
 
 // The number of refusal of a lent map of n crossings and m links, or 0.

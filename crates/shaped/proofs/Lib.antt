@@ -1,3 +1,2 @@
-pub mod Faults
 pub mod Shaped
 pub mod Lent

@@ -7,17 +7,18 @@ use native.Mathlib.Omega.{arith}
 use lib.Dec.{eqb}
 use lib.ListN.{length, getD, length-replicate, getD-replicate}
 use borrow.Author.Tests.{eq-eqb, ne-eqb, eqb-true}
+use Rattle.limits.specs.First.{allFine}
 use Rattle.limits.specs.Limits.{Between, numberOutside}
 use Rattle.limits.proofs.Laws.{orElse-none, none-orElse, outside-none, none-outside}
 use Rattle.limits.proofs.Cases.{cond-cases, cond-then}
+use Rattle.limits.proofs.Fine.{fine-all, all-fine}
 use Rattle.map.specs.declared.Side.{Side}
 use Rattle.map.specs.declared.Side.the-variants.{Forward, Backward}
 use Rattle.half.specs.Half.{unknown, ceiling, entry, Shaped, unseen, seen, ShapedHalf}
 use Rattle.half.specs.declared.Entry.{Entry}
 use Rattle.half.proofs.Shape.{open-shaped}
 use Rattle.shape.specs.Bench.{Bench, half, opened, WellShaped}
-use Rattle.shaped.specs.Shape.{unlike, allFine, unseenFault, seenFault, entryFault, halfFault, marksFault, sizeFault, endsFault, optimumFault, headFault, shapeFault}
-use Rattle.shaped.proofs.Faults.{fine-all, all-fine}
+use Rattle.shaped.specs.Shape.{unlike, unseenFault, seenFault, entryFault, halfFault, marksFault, sizeFault, endsFault, optimumFault, headFault, shapeFault}
 use Rattle.shape.proofs.Rounds.{Room}
 
 -- ---- the words

@@ -1,12 +1,11 @@
 -- The check of a bench's shape for a map of n crossings and m links: 6 for whatever is not well shaped, 0 stands for no refusal. Assumes nothing.
-use mathlib.Core.Bool.{Bool, true, cond, _&&_}
+use mathlib.Core.Bool.{cond}
 use mathlib.Core.List.{List}
 use Prim.Native.Nat.{ℕ, _-_}
 use lib.Dec.{eqb}
 use lib.ListN.{getD}
-use Rattle.limits.specs.First.{orElse}
+use Rattle.limits.specs.First.{orElse, allFine}
 use Rattle.limits.specs.Limits.{numberOutside}
-use Rattle.half.specs.Fold.{upTo}
 use Rattle.half.specs.Half.{unknown, ceiling, entry}
 use Rattle.half.specs.declared.Entry.{Entry}
 use Rattle.shape.specs.Bench.{Bench}
@@ -14,10 +13,6 @@ use Rattle.shape.specs.Bench.{Bench}
 -- where two words differ
 unfoldable pub unlike : ℕ → ℕ → ℕ
 unlike a b = cond (eqb a b) 0 6
-
--- none of f 1, f 2, .., f k is a fault
-unfoldable pub allFine : (ℕ → ℕ) → ℕ → Bool
-allFine f k = upTo (λ v fine. fine && eqb (f v) 0) k true
 
 -- ---- the halves
 

@@ -1,8 +1,6 @@
 // The check of a bench's shape, and of what every call on a bench is lent.
 ghost use mathlib.Core.Path.{_≡_};
-ghost use mathlib.Core.Bool.{_&&_};
 ghost use Prim.Native.Nat.{_*_, _≤_};
-ghost use lib.Dec.{eqb};
 ghost use lib.ListN.{length};
 ghost use Rattle.shape.specs.Bench.{half as halfOf, benchWords, parse};
 ghost use Rattle.shaped.specs.Shape.{unlike as unlikeOf, unseenFault, seenFault, entryFault, halfFault, marksFault, sizeFault, endsFault, optimumFault, headFault, shapeFault};
@@ -49,14 +47,7 @@ fn entry_fault(m: u32, e: Entry) -> u32
     seen_fault(m, e)
 }
 
-// Without a branch out of the loops that call it.
-fn still_fine(fine: bool, fault: u32) -> bool
-    ensures { λ r. ⌜ r ≡ (fine && eqb fault 0) ⌝ }
-{
-    if fine { fault == 0 } else { false }
-}
-
-// The words of one half. No early exit: so the compiler takes several crossings at a time.
+// The words of one half.
 fn half_fault(half: &[u32], n: usize, m: u32) -> u32
     requires { ⌜ length (now half) ≡ 3 * n ⌝ }
     ensures { λ r. ⌜ r ≡ halfFault n m (now (half .entry)) ⌝ }
@@ -65,7 +56,7 @@ fn half_fault(half: &[u32], n: usize, m: u32) -> u32
     let mut v: usize = 0;
     while v < n {
         v += 1;
-        fine = still_fine(fine, entry_fault(m, half::load(half, n, v)));
+        fine = limits::still_fine(fine, entry_fault(m, half::load(half, n, v)));
     }
     if fine { 0 } else { 6 }
 }
@@ -78,7 +69,7 @@ fn marks_fault(marks: &[u32], n: usize) -> u32
     let mut v: usize = 0;
     while v < n {
         v += 1;
-        fine = still_fine(fine, limits::outside(0, 1, 6, marks[v - 1]));
+        fine = limits::still_fine(fine, limits::outside(0, 1, 6, marks[v - 1]));
     }
     if fine { 0 } else { 6 }
 }

@@ -3,25 +3,21 @@ use mathlib.Core.Path.{_≡_, refl}
 use mathlib.Core.Bool.{Bool, cond, _&&_}
 use mathlib.Core.Logic.{_≢_}
 use mathlib.Core.List.{List}
-use Prim.Native.Nat.{ℕ, zero, suc, _+_, _-_}
+use Prim.Native.Nat.{ℕ, _-_}
 use native.Mathlib.Omega.{arith}
-use lib.Dec.{eqb, leb}
+use lib.Dec.{eqb}
 use lib.ListN.{getD}
-use Rattle.limits.specs.First.{orElse}
+use Rattle.limits.specs.First.{orElse, allFine}
 use Rattle.limits.specs.Limits.{Between, numberOutside, roomFault}
 use Rattle.limits.specs.Said.{Said, told, refused}
 use Rattle.limits.proofs.Cases.{cond-both}
 use Rattle.limits.proofs.Laws.{orElse-both, outside-both, room-both}
 use Rattle.limits.proofs.Said.{told-refused}
-use Rattle.map.specs.Map.{cost}
-use Rattle.map.specs.Walk.{near, far}
 use Rattle.map.specs.declared.Side.{Side}
 use Rattle.map.specs.declared.Side.the-variants.{Forward, Backward}
-use Rattle.half.specs.Fold.{upTo}
-use Rattle.half.specs.Half.{unknown, ceiling, dist, link, state, entry}
-use Rattle.half.specs.declared.Entry.{Entry}
+use Rattle.half.specs.Half.{unknown, ceiling, entry}
 use Rattle.shape.specs.Bench.{Bench}
-use Rattle.shape.specs.Rules.{known, done, mark}
+use Rattle.shape.specs.Rules.{known, done}
 use Rattle.shaped.specs.Shape as shape
 use Rattle.trail.specs.Sound as sound
 use Rattle.area.specs.Finished.{doneFault, unknownFault, ruleFault, trailsFault}
@@ -65,11 +61,11 @@ optimum-only o = cond-both (Only 6) (eqb o unknown) (none 6) (outside-only 6 0 c
 
 half-only : (n m : ℕ) (h : List ℕ) → Only 6 (shape.halfFault n m h)
 unfolding shape.halfFault
-half-only n m h = unless-only 6 (shape.allFine (λ v. shape.entryFault m (entry n h v)) n)
+half-only n m h = unless-only 6 (allFine (λ v. shape.entryFault m (entry n h v)) n)
 
 marks-only : (n : ℕ) (marks : List ℕ) → Only 6 (shape.marksFault n marks)
 unfolding shape.marksFault
-marks-only n marks = unless-only 6 (shape.allFine (λ v. numberOutside 0 1 6 (getD marks (v - 1) 0)) n)
+marks-only n marks = unless-only 6 (allFine (λ v. numberOutside 0 1 6 (getD marks (v - 1) 0)) n)
 
 pub shape-only : (n m : ℕ) (b : Bench) → Only 6 (shape.shapeFault n m b)
 unfolding shape.shapeFault shape.headFault shape.sizeFault shape.endsFault
@@ -82,44 +78,19 @@ shape-only n m b =
 
 -- ---- 7: trails not sound
 
-faults-only : (f : ℕ → ℕ) (k : ℕ) → ((v : ℕ) → Only 7 (f v)) → Only 7 (sound.faults f k)
-unfolding sound.faults upTo
-faults-only f zero p = none 7
-faults-only f (suc k) p = either 7 _ _ (faults-only f k p) (p (suc k))
+sound-only : (side : Side) (map : List ℕ) (n m root : ℕ) (h : List ℕ) → Only 7 (sound.soundFault side map n m root h)
+unfolding sound.soundFault
+sound-only side map n m root h = unless-only 7 (allFine (sound.soundAt side map n m root h) n)
 
-root-only : (e : Entry) → Only 7 (sound.rootFault e)
-unfolding sound.rootFault
-root-only e = unless-only 7 (eqb (e .dist) 0 && (eqb (e .link) 0 && eqb (e .state) 2))
-
-module _ (side : Side) (map : List ℕ) (n m : ℕ) (h : List ℕ) where
-  tight-only : (v d k : ℕ) → Only 7 (sound.tightFault side map n h v d k)
-  unfolding sound.tightFault
-  tight-only v d k =
-      unless-only 7 (eqb (far side map k) v && (eqb (state n h (near side map k)) 2 && eqb d (dist h (near side map k) + cost map k)))
-
-  named-only : (v d k : ℕ) → Only 7 (sound.namedFault side map n m h v d k)
-  unfolding sound.namedFault
-  named-only v d k = cond-both (Only 7) (leb 1 k && leb k m) (tight-only v d k) (this 7)
-
-  at-only : (root v : ℕ) → Only 7 (sound.soundAt side map n m root h v)
-  unfolding sound.soundAt
-  at-only root v =
-      cond-both (Only 7) (eqb v root) (root-only (entry n h v))
-      (cond-both (Only 7) (eqb (state n h v) 2) (named-only v (dist h v) (link n h v)) (none 7))
-
-  sound-only : (root : ℕ) → Only 7 (sound.soundFault side map n m root h)
-  unfolding sound.soundFault
-  sound-only root = faults-only _ n (at-only root)
-
-mark-only : (n stretch optimum : ℕ) (f g marks : List ℕ) (v : ℕ) → Only 7 (sound.markFault n stretch optimum f g marks v)
-unfolding sound.markFault
-mark-only n stretch optimum f g marks v = unless-only 7 (eqb (getD marks (v - 1) 0) (mark n stretch optimum f g v))
+rule-only : (n stretch optimum : ℕ) (f g marks : List ℕ) → Only 7 (sound.marksFault n stretch optimum f g marks)
+unfolding sound.marksFault
+rule-only n stretch optimum f g marks = unless-only 7 (allFine (sound.markFault n stretch optimum f g marks) n)
 
 pub trails-only : (map : List ℕ) (n m : ℕ) (b : Bench) → Only 7 (trailsFault map n m b)
-unfolding trailsFault ruleFault sound.marksFault
+unfolding trailsFault ruleFault
 trails-only map n m b =
-    either 7 _ _ (sound-only Forward map n m (b .forward) (b .start))
-    (either 7 _ _ (sound-only Backward map n m (b .backward) (b .target)) (faults-only _ n (mark-only n _ _ _ _ _)))
+    either 7 _ _ (sound-only Forward map n m (b .start) (b .forward))
+    (either 7 _ _ (sound-only Backward map n m (b .target) (b .backward)) (rule-only n _ _ _ _ _))
 
 -- ---- 8 and 9
 

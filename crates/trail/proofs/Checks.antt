@@ -6,7 +6,6 @@ use Prim.Native.Nat.{ℕ, _+_, _-_, _≤_, _<_}
 use native.Mathlib.Omega.{arith}
 use lib.ListN.{getD}
 use borrow.Author.Tests.{eq-eqb, ne-eqb, le-leb, lt-leb}
-use Rattle.limits.specs.First.{orElse}
 use Rattle.limits.specs.Limits.{Between}
 use Rattle.map.specs.Map.{cost, Valid}
 use Rattle.map.specs.Walk.{near, far}
@@ -14,9 +13,8 @@ use Rattle.map.specs.declared.Side.{Side}
 use Rattle.map.proofs.Walks.{near-in}
 use Rattle.half.specs.Half.{ceiling, dist, link, state, entry, Shaped, unseen, seen, ShapedHalf}
 use Rattle.half.specs.declared.Entry.{Entry}
-use Rattle.half.proofs.Folds.{upTo-none, upTo-more}
 use Rattle.shape.specs.Rules.{markBy, mark}
-use Rattle.trail.specs.Sound.{faults, rootFault, tightFault, namedFault, soundAt, markFault}
+use Rattle.trail.specs.Sound.{rootFault, tightFault, namedFault, soundAt, markFault}
 
 shaped-low : {m : ℕ} {e : Entry} → Shaped m e → e .state ≡ 2 → e .dist ≤ ceiling
 shaped-low (unseen s d l) t = absurd (omega arith)
@@ -24,16 +22,6 @@ shaped-low (seen s d l) t = d
 
 pub settled-low : {n m : ℕ} {h : List ℕ} → ShapedHalf n m h → (v : ℕ) → Between 1 n v → state n h v ≡ 2 → dist h v ≤ ceiling
 settled-low shaped v i t = shaped-low (shaped .entries v i) t
-
--- ---- the loop over the crossings
-
-pub faults-none : (f : ℕ → ℕ) → 0 ≡ faults f 0
-unfolding faults
-faults-none f = sym (upTo-none _ _)
-
-pub faults-more : (f : ℕ → ℕ) (k : ℕ) {a b r : ℕ} → a ≡ faults f k → b ≡ f (k + 1) → r ≡ orElse a b → r ≡ faults f (k + 1)
-unfolding faults
-faults-more f k p q e = e ∙ rw (p, q) (sym (upTo-more _ k 0))
 
 -- ---- one link
 

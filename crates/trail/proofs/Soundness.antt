@@ -1,9 +1,9 @@
 -- The checks give 0 exactly if the trails are sound; and sound trails of a well-shaped half can be walked. Assumes nothing.
 use mathlib.Core.Path.{_≡_, refl, sym, _∙_, ap}
 use mathlib.Core.Bool.{_&&_}
-use mathlib.Core.Logic.{_≢_, ⊎-elim, dite}
+use mathlib.Core.Logic.{_≢_, dite}
 use mathlib.Core.List.{List}
-use Prim.Native.Nat.{ℕ, zero, suc, _-_}
+use Prim.Native.Nat.{ℕ, suc, _-_}
 use native.Mathlib.Omega.{arith}
 use native.Mathlib.Decide.{ℕ-discrete}
 use lib.Dec.{eqb}
@@ -12,37 +12,21 @@ use lib.Seq.{ext-getD}
 use borrow.Author.Tests.{eqb-true, leb-true, eq-eqb}
 use Rattle.limits.specs.Limits.{Between}
 use Rattle.limits.proofs.Cases.{and-both, cond-then}
-use Rattle.limits.proofs.Laws.{orElse-none, none-orElse}
+use Rattle.limits.proofs.Fine.{fine-all, all-fine}
 use Rattle.map.specs.Map.{Valid}
 use Rattle.map.specs.Walk.{near}
 use Rattle.map.specs.declared.Side.{Side}
 use Rattle.map.specs.declared.Side.the-variants.{Forward, Backward}
 use Rattle.map.proofs.Walks.{near-in}
-use Rattle.half.specs.Fold.{upTo}
 use Rattle.half.specs.Half.{dist, link, state, entry, ShapedHalf, Tight}
 use Rattle.half.specs.declared.Entry.{Entry}
-use Rattle.half.proofs.Folds.{last-or}
 use Rattle.shape.specs.Bench.{Bench, half, root, WellShaped}
 use Rattle.shape.specs.Rules.{known, within, mark, marksOf}
 use Rattle.shape.proofs.Marks.{marks-length, marks-at}
-use Rattle.trail.specs.Sound.{SoundHalf, faults, rootFault, tightFault, namedFault, soundAt, soundFault, marksSound, markFault, marksFault}
+use Rattle.trail.specs.Sound.{SoundHalf, rootFault, tightFault, namedFault, soundAt, soundFault, marksSound, markFault, marksFault}
 use Rattle.trail.specs.Trail.{Settled, Trails, Walkable}
 use Rattle.trail.proofs.Tests.{seven-none}
 use Rattle.trail.proofs.Checks.{settled-low, tight-right, named-by, sound-root, sound-unsettled, sound-settled}
-
--- ---- no fault among the crossings 1 to k
-
-faults-each : (f : ℕ → ℕ) (k : ℕ) → faults f k ≡ 0 → (v : ℕ) → Between 1 k v → f v ≡ 0
-unfolding faults upTo
-faults-each f zero e v i = absurd (omega arith)
-faults-each f (suc k) e v i =
-    let p = orElse-none _ _ e in
-    ⊎-elim (λ a. faults-each f k (p .0) v a) (λ z. rw z (p .1)) (last-or i)
-
-each-faults : (f : ℕ → ℕ) (k : ℕ) → ((v : ℕ) → Between 1 k v → f v ≡ 0) → faults f k ≡ 0
-unfolding faults upTo
-each-faults f zero h = refl
-each-faults f (suc k) h = none-orElse _ _ (each-faults f k (λ v i. h v (omega arith))) (h (suc k) (omega arith))
 
 -- ---- one half
 
@@ -81,13 +65,13 @@ module _ (side : Side) (map : List ℕ) (n m root : ℕ) (h : List ℕ) where
   unfolding soundFault
   fault-sound i z =
       record {
-        root-is = root-entry (entry n h root) (sound-root side map n m root h root refl refl refl ∙ faults-each _ n z root i);
-        named = λ v j ne s. named-link v (sound-settled side map n m root h v refl ne s refl ∙ faults-each _ n z v j);
+        root-is = root-entry (entry n h root) (sound-root side map n m root h root refl refl refl ∙ fine-all _ n (seven-none _ z) root i);
+        named = λ v j ne s. named-link v (sound-settled side map n m root h v refl ne s refl ∙ fine-all _ n (seven-none _ z) v j);
       }
 
   pub sound-fault : SoundHalf side map n m root h → soundFault side map n m root h ≡ 0
   unfolding soundFault
-  sound-fault sound = each-faults _ n (λ v i. sym (at v i))
+  sound-fault sound = rw (all-fine (soundAt side map n m root h) n (λ v i. sym (at v i)))
     where
       at : (v : ℕ) → Between 1 n v → 0 ≡ soundAt side map n m root h v
       at v i =
@@ -134,13 +118,15 @@ module _ (n stretch optimum : ℕ) (f g marks : List ℕ) where
       let e : suc i - 1 ≡ i = omega arith in
       let one : Between 1 n (suc i) = omega arith in
       ap (λ (j : ℕ). getD marks j 0) (sym e)
-      ∙ eqb-true _ _ (seven-none _ (faults-each _ n z (suc i) one))
+      ∙ eqb-true _ _ (seven-none _ (fine-all _ n (seven-none _ z) (suc i) one))
       ∙ sym (marks-at n stretch optimum f g one)
       ∙ ap (λ (j : ℕ). getD (marksOf n stretch optimum f g) j 0) e)
 
   pub marks-fault : marks ≡ marksOf n stretch optimum f g → marksFault n stretch optimum f g marks ≡ 0
   unfolding marksFault markFault
-  marks-fault e = each-faults _ n (λ v i. simp (eq-eqb _ _ (ap (λ (l : List ℕ). getD l (v - 1) 0) e ∙ marks-at n stretch optimum f g i)))
+  marks-fault e =
+      rw (all-fine (markFault n stretch optimum f g marks) n
+      (λ v i. simp (eq-eqb _ _ (ap (λ (l : List ℕ). getD l (v - 1) 0) e ∙ marks-at n stretch optimum f g i))))
 
   -- a marked crossing is settled in and-both halves
   module _ (e : marks ≡ marksOf n stretch optimum f g) (v : ℕ) (i : Between 1 n v) (one : getD marks (v - 1) 0 ≡ 1) where

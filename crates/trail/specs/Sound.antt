@@ -6,12 +6,11 @@ use mathlib.Core.List.{List}
 use Prim.Native.Nat.{ℕ, _+_, _-_}
 use lib.Dec.{eqb, leb}
 use lib.ListN.{getD}
-use Rattle.limits.specs.First.{orElse}
+use Rattle.limits.specs.First.{allFine}
 use Rattle.limits.specs.Limits.{Between}
 use Rattle.map.specs.Map.{cost}
 use Rattle.map.specs.Walk.{near, far}
 use Rattle.map.specs.declared.Side.{Side}
-use Rattle.half.specs.Fold.{upTo}
 use Rattle.half.specs.Half.{dist, link, state, entry, Tight}
 use Rattle.half.specs.declared.Entry.{Entry}
 use Rattle.shape.specs.Bench.{Bench}
@@ -25,10 +24,6 @@ pub record SoundHalf (side : Side) (map : List ℕ) (n m root : ℕ) (h : List �
   pub named : (v : ℕ) → Between 1 n v → v ≢ root → state n h v ≡ 2 → Tight side map n m h v (link n h v)
 
 -- ---- its check
-
--- the first fault of the crossings 1 to k, 0 where there is none
-unfoldable pub faults : (ℕ → ℕ) → ℕ → ℕ
-faults f k = upTo (λ v fault. orElse fault (f v)) k 0
 
 abbrev pub sevenUnless : Bool → ℕ
 sevenUnless t = cond t 0 7
@@ -51,7 +46,7 @@ soundAt side map n m root h v =
     (cond (eqb (state n h v) 2) (namedFault side map n m h v (dist h v) (link n h v)) 0)
 
 unfoldable pub soundFault : Side → List ℕ → ℕ → ℕ → ℕ → List ℕ → ℕ
-soundFault side map n m root h = faults (soundAt side map n m root h) n
+soundFault side map n m root h = sevenUnless (allFine (soundAt side map n m root h) n)
 
 -- ---- the marks: each is what rule 4 of a turn gives
 
@@ -62,4 +57,4 @@ unfoldable pub markFault : ℕ → ℕ → ℕ → List ℕ → List ℕ → Lis
 markFault n stretch optimum f g marks v = sevenUnless (eqb (getD marks (v - 1) 0) (mark n stretch optimum f g v))
 
 unfoldable pub marksFault : ℕ → ℕ → ℕ → List ℕ → List ℕ → List ℕ → ℕ
-marksFault n stretch optimum f g marks = faults (markFault n stretch optimum f g marks) n
+marksFault n stretch optimum f g marks = sevenUnless (allFine (markFault n stretch optimum f g marks) n)

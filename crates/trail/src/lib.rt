@@ -96,13 +96,13 @@ pub fn sound_fault(map: &[u32], half: &[u32], n: usize, m: usize, side: Side, ro
     requires { ⌜ Valid n m (now map) × ShapedHalf n m (now half) ⌝ }
     ensures { λ r. ⌜ r ≡ soundFault side (now (map .entry)) n m root (now (half .entry)) ⌝ }
 {
-    let mut fault: u32 = 0;
+    let mut fine = true;
     let mut v: usize = 0;
     while v < n {
         v += 1;
-        fault = limits::or_else(fault, sound_at(map, half, n, m, side, root, v));
+        fine = limits::still_fine(fine, sound_at(map, half, n, m, side, root, v));
     }
-    fault
+    if fine { 0 } else { 7 }
 }
 
 // Rule 4 for v.
@@ -138,13 +138,13 @@ pub fn marks_fault(f: &[u32], g: &[u32], marks: &[u32], n: usize, stretch: u32, 
     requires { ⌜ (length (now f) ≡ 3 * n) × (length (now g) ≡ 3 * n) × (length (now marks) ≡ n) ⌝ }
     ensures { λ r. ⌜ r ≡ marksFault n stretch optimum (now (f .entry)) (now (g .entry)) (now (marks .entry)) ⌝ }
 {
-    let mut fault: u32 = 0;
+    let mut fine = true;
     let mut v: usize = 0;
     while v < n {
         v += 1;
-        fault = limits::or_else(fault, mark_fault(f, g, marks, n, stretch, optimum, v));
+        fine = limits::still_fine(fine, mark_fault(f, g, marks, n, stretch, optimum, v));
     }
-    fault
+    if fine { 0 } else { 7 }
 }
 
 // The crossing after v on its trail; 0 where v is the last.

@@ -2,9 +2,10 @@
 use mathlib.Core.Path.{_≡_, _∙_, ap}
 use Prim.Native.Nat.{_≤_, _-_}
 use native.Mathlib.Omega.{arith}
-use Rattle.shaped.proofs.Faults.{fine-start, fine-step}
+use Rattle.limits.specs.First.{allFine}
+use Rattle.limits.proofs.Fine.{fine-start, fine-step}
 use Rattle.half.specs.Half.{entry}
-use Rattle.shaped.specs.Shape.{allFine, entryFault, halfFault}
+use Rattle.shaped.specs.Shape.{entryFault, halfFault}
 use borrow.Author.Needs.{needs}
 use Rattle.shaped.proofs.half_fault.Statement.{statement}
 use Rattle.shaped.proofs.half_fault.Tie as tie

@@ -2,10 +2,11 @@
 use mathlib.Core.Path.{_≡_}
 use Prim.Native.Nat.{_≤_, _-_}
 use native.Mathlib.Omega.{arith}
-use Rattle.shaped.proofs.Faults.{fine-start, fine-step}
+use Rattle.limits.specs.First.{allFine}
+use Rattle.limits.proofs.Fine.{fine-start, fine-step}
 use lib.ListN.{getD}
 use Rattle.limits.specs.Limits.{numberOutside}
-use Rattle.shaped.specs.Shape.{allFine, marksFault}
+use Rattle.shaped.specs.Shape.{marksFault}
 use borrow.Author.Needs.{needs}
 use Rattle.shaped.proofs.marks_fault.Statement.{statement}
 use Rattle.shaped.proofs.marks_fault.Tie as tie

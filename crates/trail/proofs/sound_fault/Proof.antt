@@ -1,21 +1,22 @@
--- `trail::sound_fault` meets its contract. The loop's invariant: what the crossings 1 to v give. Assumes nothing.
+-- `trail::sound_fault` meets its contract. The loop's invariant: fine says that none of the crossings 1 to v has a fault. Assumes nothing.
 use mathlib.Core.Path.{_≡_}
 use Prim.Native.Nat.{_≤_, _-_}
 use native.Mathlib.Omega.{arith}
-use Rattle.trail.specs.Sound.{faults, soundAt, soundFault}
-use Rattle.trail.proofs.Checks.{faults-none, faults-more}
+use Rattle.limits.specs.First.{allFine}
+use Rattle.limits.proofs.Fine.{fine-start, fine-step}
+use Rattle.trail.specs.Sound.{soundAt, soundFault}
 use borrow.Author.Needs.{needs}
 use Rattle.trail.proofs.sound_fault.Statement.{statement}
 use Rattle.trail.proofs.sound_fault.Tie as tie
 
 abbrev Inv-loop : tie.InvT-loop
-Inv-loop map half n m side root fault₀ v₀ fault v = (v ≤ n) × (fault ≡ faults (soundAt side map n m root half) v)
+Inv-loop map half n m side root fine₀ v₀ fine v = (v ≤ n) × (fine ≡ allFine (soundAt side map n m root half) v)
 
 abbrev μ-loop : tie.MeasureT-loop
-μ-loop map half n m side root fault₀ v₀ fault v = n - v
+μ-loop map half n m side root fine₀ v₀ fine v = n - v
 
 loop-holds : tie.Need-loop-holds Inv-loop μ-loop
-loop-holds c = (omega arith, faults-none _)
+loop-holds c = (omega arith, fine-start _)
 
 add-v : tie.Need-add-v Inv-loop μ-loop
 add-v c = search needs
@@ -23,18 +24,28 @@ add-v c = search needs
 sound-at-requires : tie.Need-sound-at-requires Inv-loop μ-loop
 sound-at-requires c κs = search needs
 
-or-else-requires : tie.Need-or-else-requires Inv-loop μ-loop
-or-else-requires c κs = search needs
+still-fine-requires : tie.Need-still-fine-requires Inv-loop μ-loop
+still-fine-requires c κs = search needs
 
 loop-less : tie.Need-loop-less Inv-loop μ-loop
 loop-less c = search needs
 
 loop-again : tie.Need-loop-again Inv-loop μ-loop
-loop-again c = let l = c .before .before .before .loop in (omega arith, faults-more _ _ (l .inv .1) (c .before .sound-at .ensures) (c .or-else .ensures))
+loop-again c = let l = c .before .before .before .loop in (omega arith, fine-step _ _ (l .inv .1) (c .before .sound-at .ensures) (c .still-fine .ensures))
 
 returns : tie.Need-returns Inv-loop μ-loop
 unfolding soundFault
-returns c = let l = c .before .loop in let e : l .v ≡ c .before .before .before .before .args .n = omega arith in rw e at (l .inv .1)
+returns c =
+    let l = c .before .before .loop in
+    let e : l .v ≡ c .before .before .before .before .before .args .n = omega arith in
+    rw (← (rw e at (l .inv .1)), c .if1 .taken)
+
+returns-2 : tie.Need-returns-2 Inv-loop μ-loop
+unfolding soundFault
+returns-2 c =
+    let l = c .before .before .loop in
+    let e : l .v ≡ c .before .before .before .before .before .args .n = omega arith in
+    rw (← (rw e at (l .inv .1)), c .if1 .left)
 
 pub sound-fault-spec : {M : Type 1} → statement M
 sound-fault-spec =
@@ -45,7 +56,8 @@ sound-fault-spec =
     loop-holds
     add-v
     sound-at-requires
-    or-else-requires
+    still-fine-requires
     loop-less
     loop-again
-    returns)
+    returns
+    returns-2)

@@ -1,7 +1,7 @@
--- `shaped::still_fine` meets its contract. Assumes nothing.
+-- `limits::still_fine` meets its contract. Assumes nothing.
 use borrow.Author.Needs.{needs}
-use Rattle.shaped.proofs.still_fine.Statement.{statement}
-use Rattle.shaped.proofs.still_fine.Tie as tie
+use Rattle.limits.proofs.still_fine.Statement.{statement}
+use Rattle.limits.proofs.still_fine.Tie as tie
 
 returns : tie.Need-returns
 returns c = rw (c .if1 .taken)
