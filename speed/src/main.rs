@@ -5,27 +5,26 @@ mod agree;
 mod grid;
 mod heap;
 mod measure;
+mod memory;
 mod order;
 mod plain;
 mod reader;
 
 use grid::Grid;
-use measure::{row, Piece, Work, REPEATS};
+use measure::{row, Pair, Work, REPEATS};
+use memory::allocated;
 use order::Order;
 use plain::Side;
 
-/// The rows of the calls that are asked again and again on the same lent memory.
+/// The rows of calls that are made again and again on the same lent memory.
 fn steady(order: &mut Order) {
     let again = |library: Work, other: Work, what: &str, order: &mut Order| {
         row(
             what,
             order,
-            &Piece {
-                ready: |_| (),
+            &Pair {
                 times: 20,
-                calls: 1,
-                library,
-                other,
+                ..Pair::new(library, other)
             },
         );
     };
@@ -38,7 +37,7 @@ fn steady(order: &mut Order) {
     again(&Order::area, &Order::plain_area, "area", order);
 }
 
-/// The turns of each half alone, from the opened bench on.
+/// The rows of the turns of each half alone, from the opened bench on.
 fn halves(order: &mut Order) {
     for (what, side) in [
         ("forward turn", Side::Forward),
@@ -47,16 +46,14 @@ fn halves(order: &mut Order) {
         order.open();
         let calls = order.half(side);
         let library = |o: &mut Order| assert_eq!(o.half(side), calls);
-        let other = |o: &mut Order| o.plain_half(side);
+        let plain = |o: &mut Order| o.plain_half(side);
         row(
             what,
             order,
-            &Piece {
+            &Pair {
                 ready: Order::open,
-                times: 1,
                 calls,
-                library: &library,
-                other: &other,
+                ..Pair::new(&library, &plain)
             },
         );
     }
@@ -64,23 +61,28 @@ fn halves(order: &mut Order) {
 
 fn wholes(order: &mut Order) {
     let heap = |o: &mut Order| assert!(o.heap_whole() > 0);
-    let rows: [(&str, Work); 2] = [
-        ("whole order", &Order::plain_whole),
-        ("whole order against a heap", &heap),
-    ];
-    for (what, other) in rows {
-        row(
-            what,
-            order,
-            &Piece {
-                ready: |_| (),
-                times: 1,
-                calls: 1,
-                library: &Order::whole,
-                other,
-            },
-        );
-    }
+    row(
+        "whole order",
+        order,
+        &Pair::new(&Order::whole, &Order::plain_whole),
+    );
+    row(
+        "whole order against a heap",
+        order,
+        &Pair::new(&Order::whole, &heap),
+    );
+}
+
+/// What a whole order takes beside the map: the bench and the mask are lent, the heap's costs are allocated.
+fn memory(order: &mut Order) {
+    let lent = size_of_val(&*order.bench) + order.mask.len();
+    let library = lent + allocated(|| order.whole());
+    let heap = order.mask.len() + allocated(|| assert!(order.heap_whole() > 0));
+    let ratio = library as f64 / heap as f64;
+    println!(
+        "| {} / {} | {library} | {heap} | {ratio:.2} |",
+        order.n, order.m
+    );
 }
 
 fn main() {
@@ -96,4 +98,7 @@ fn main() {
             rows(order);
         }
     }
+    println!("\n| crossings / links | library, bytes | heap, bytes | ratio |");
+    println!("|---|---|---|---|");
+    orders.iter_mut().for_each(memory);
 }

@@ -8,25 +8,40 @@ pub const REPEATS: usize = 25;
 
 pub type Work<'a> = &'a dyn Fn(&mut Order);
 
-/// What is done once before each timed piece of work, how often it is done in a row, and how many calls it makes.
-pub struct Piece<'a> {
-    pub ready: fn(&mut Order),
-    pub times: u32,
-    pub calls: u32,
+/// Two ways to do the same work.
+pub struct Pair<'a> {
     pub library: Work<'a>,
     pub other: Work<'a>,
+    /// Done before the work each time, and not timed.
+    pub ready: fn(&mut Order),
+    /// How often the work is done for one figure.
+    pub times: u32,
+    /// How many calls it makes.
+    pub calls: u32,
+}
+
+impl<'a> Pair<'a> {
+    pub fn new(library: Work<'a>, other: Work<'a>) -> Self {
+        Pair {
+            library,
+            other,
+            ready: |_| (),
+            times: 1,
+            calls: 1,
+        }
+    }
 }
 
 /// The seconds that a call takes.
-fn time(order: &mut Order, piece: &Piece, work: Work) -> f64 {
+fn time(order: &mut Order, pair: &Pair, work: Work) -> f64 {
     let mut spent = Duration::ZERO;
-    for _ in 0..piece.times {
-        (piece.ready)(order);
+    for _ in 0..pair.times {
+        (pair.ready)(order);
         let begun = Instant::now();
         work(black_box(order));
         spent += begun.elapsed();
     }
-    spent.as_secs_f64() / f64::from(piece.times * piece.calls)
+    spent.as_secs_f64() / f64::from(pair.times * pair.calls)
 }
 
 /// The first quartile, the median and the third quartile.
@@ -36,15 +51,15 @@ fn quartiles(mut values: Vec<f64>) -> [f64; 3] {
 }
 
 /// Prints a row of the table. The two take turns, and in going first, so that what slows the machine slows both.
-pub fn row(what: &str, order: &mut Order, piece: &Piece) {
+pub fn row(what: &str, order: &mut Order, pair: &Pair) {
     let (mut ours, mut others) = (Vec::new(), Vec::new());
     for repeat in 0..REPEATS {
         if repeat % 2 == 0 {
-            ours.push(time(order, piece, piece.library));
-            others.push(time(order, piece, piece.other));
+            ours.push(time(order, pair, pair.library));
+            others.push(time(order, pair, pair.other));
         } else {
-            others.push(time(order, piece, piece.other));
-            ours.push(time(order, piece, piece.library));
+            others.push(time(order, pair, pair.other));
+            ours.push(time(order, pair, pair.library));
         }
     }
     let ratios = ours
