@@ -4,7 +4,7 @@ use crate::grid::Random;
 use crate::order::Order;
 use crate::plain::{self, Side};
 use crate::reader;
-use sankayop::{Filling, Reading, Turn};
+use sankayop::{Filling, Reading, Routing, Turn};
 
 /// The readers on the text, and on the text with one byte changed.
 fn readers(order: &Order, random: &mut Random) {
@@ -60,7 +60,25 @@ fn areas(order: &mut Order) {
     assert_eq!(order.mask, mask, "the areas fill different masks");
 }
 
-/// The whole order, step by step.
+fn routes(order: &mut Order, crossing: u32) {
+    let Order {
+        n,
+        m,
+        ref map,
+        ref bench,
+        ..
+    } = *order;
+    let mut route = order.route.clone();
+    let plain = plain::route(map, n, m, bench, crossing, &mut route);
+    let answer = match sankayop::route(map, n, m, bench, crossing, &mut order.route) {
+        Routing::Route(crossings) => Ok(crossings.len()),
+        Routing::Refused(refusal) => Err(refusal.number()),
+    };
+    assert_eq!(answer, plain, "the routes answer differently");
+    assert_eq!(order.route, route, "the routes differ");
+}
+
+/// The whole order, step by step, and the routes through all crossings.
 fn wholes(order: &mut Order) {
     order.plain_open();
     let opened = order.bench.clone();
@@ -68,6 +86,9 @@ fn wholes(order: &mut Order) {
     assert_eq!(order.bench, opened, "the opened benches differ");
     while !(turns(order, Side::Forward) & turns(order, Side::Backward)) {}
     areas(order);
+    for crossing in 0..=order.n + 1 {
+        routes(order, crossing);
+    }
     let mask = order.mask.clone();
     assert_eq!(
         order.heap_whole(),
@@ -77,7 +98,7 @@ fn wholes(order: &mut Order) {
     assert_eq!(order.mask, mask, "the heap finds another area");
 }
 
-/// Turns and areas on the map and the bench with one word changed, so that their checks agree too.
+/// Areas, routes and turns on the map and the bench with one word changed, so that their checks agree too.
 fn damaged(order: &mut Order, random: &mut Random) {
     for _ in 0..500 {
         let (map, bench) = (order.map.clone(), order.bench.clone());
@@ -90,6 +111,7 @@ fn damaged(order: &mut Order, random: &mut Random) {
         let at = random.below(lent.len() as u32) as usize;
         lent[at] = word;
         areas(order);
+        routes(order, order.n / 2);
         turns(order, Side::Forward);
         turns(order, Side::Backward);
         (order.map, order.bench) = (map, bench);

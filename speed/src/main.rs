@@ -35,6 +35,13 @@ fn steady(order: &mut Order) {
     let plain_done = |o: &mut Order| assert_eq!(o.plain_turn(Side::Forward), None);
     again(&done, &plain_done, "turn of a half that is done", order);
     again(&Order::area, &Order::plain_area, "area", order);
+    // Through the last crossing that is in the area, but not locally optimal.
+    let detour = order.mask.iter().rposition(|&kind| kind == 1);
+    let crossing = detour.expect("a detour in the area") as u32 + 1;
+    let length = order.route(crossing);
+    let route = |o: &mut Order| assert_eq!(o.route(crossing), length);
+    let plain_route = |o: &mut Order| assert_eq!(o.plain_route(crossing), length);
+    again(&route, &plain_route, "route", order);
 }
 
 /// The rows of the turns of each half alone, from the opened bench on.

@@ -4,7 +4,7 @@
 use crate::grid::Grid;
 use crate::plain::{self, Side};
 use crate::{heap, reader};
-use sankayop::{bench_words, map_words, Filling, Opening, Reading, Turn};
+use sankayop::{bench_words, map_words, route_words, Filling, Opening, Reading, Routing, Turn};
 
 const STRETCH: u32 = 1200;
 
@@ -15,6 +15,7 @@ pub struct Order {
     pub map: Vec<u32>,
     pub bench: Vec<u32>,
     pub mask: Vec<u8>,
+    pub route: Vec<u32>,
     pub locality: u32,
 }
 
@@ -23,7 +24,7 @@ impl Order {
     pub fn new(grid: Grid) -> Self {
         let Grid { n, m, text } = grid;
         let (map, bench) = (vec![0; map_words(m)], vec![0; bench_words(n)]);
-        let mask = vec![0; n as usize];
+        let (mask, route) = (vec![0; n as usize], vec![0; route_words(n)]);
         let mut order = Order {
             n,
             m,
@@ -31,6 +32,7 @@ impl Order {
             map,
             bench,
             mask,
+            route,
             locality: 5000,
         };
         order.read();
@@ -88,6 +90,21 @@ impl Order {
         assert_eq!(filled, Filling::Area);
     }
 
+    /// The route through a crossing; its length.
+    pub fn route(&mut self, crossing: u32) -> usize {
+        match sankayop::route(
+            &self.map,
+            self.n,
+            self.m,
+            &self.bench,
+            crossing,
+            &mut self.route,
+        ) {
+            Routing::Route(crossings) => crossings.len(),
+            Routing::Refused(refusal) => panic!("{refusal}"),
+        }
+    }
+
     /// Opening, turns of both halves in turn until both are done, area.
     pub fn whole(&mut self) {
         self.open();
@@ -140,6 +157,18 @@ impl Order {
             &mut self.mask,
         );
         assert_eq!(filled, Ok(()));
+    }
+
+    pub fn plain_route(&mut self, crossing: u32) -> usize {
+        plain::route(
+            &self.map,
+            self.n,
+            self.m,
+            &self.bench,
+            crossing,
+            &mut self.route,
+        )
+        .expect("a marked crossing")
     }
 
     pub fn plain_whole(&mut self) {

@@ -205,6 +205,24 @@ impl<'a> Bench<'a> {
             .fold(true, |right, (&held, due)| right & (held == due))
     }
 
+    /// Both halves are done, there is a route, and trails and marks are sound.
+    fn finished(&self, links: &[Link]) -> Result<(), u32> {
+        if self.next(Side::Forward).is_some() || self.next(Side::Backward).is_some() {
+            return Err(8);
+        }
+        let [_, _, start, target, _, optimum] = self.head;
+        if optimum == UNKNOWN {
+            return Err(9);
+        }
+        if !self.forward.is_sound(links, Side::Forward, start)
+            || !self.backward.is_sound(links, Side::Backward, target)
+            || !self.are_marks_right()
+        {
+            return Err(7);
+        }
+        Ok(())
+    }
+
     /// What the mask holds of the crossing at index x.
     fn mask(&self, links: &[Link], locality: u32, x: usize) -> u8 {
         let (f, b) = (&self.forward, &self.backward);
@@ -321,21 +339,42 @@ pub fn area(
     }
     let bench = Bench::of(bench, n, m)?;
     let mask = mask.get_mut(..n as usize).ok_or(3_u32)?;
-    if bench.next(Side::Forward).is_some() || bench.next(Side::Backward).is_some() {
-        return Err(8);
-    }
-    let [_, _, start, target, _, optimum] = bench.head;
-    if optimum == UNKNOWN {
-        return Err(9);
-    }
-    if !bench.forward.is_sound(links, Side::Forward, start)
-        || !bench.backward.is_sound(links, Side::Backward, target)
-        || !bench.are_marks_right()
-    {
-        return Err(7);
-    }
+    bench.finished(links)?;
     for (x, byte) in mask.iter_mut().enumerate() {
         *byte = bench.mask(links, locality, x);
     }
     Ok(())
+}
+
+/// The length of the route through a crossing, which is written over the first words of the buffer.
+pub fn route(
+    map: &[u32],
+    n: u32,
+    m: u32,
+    bench: &[u32],
+    crossing: u32,
+    buffer: &mut [u32],
+) -> Result<usize, u32> {
+    let links = links(map, n, m)?;
+    if !(1..=n).contains(&crossing) {
+        return Err(4);
+    }
+    let bench = Bench::of(bench, n, m)?;
+    bench.finished(links)?;
+    let x = crossing as usize - 1;
+    if bench.marks[x] == 0 {
+        return Err(10);
+    }
+    let there = || bench.forward.trail(links, Side::Forward, x);
+    let on = || bench.backward.trail(links, Side::Backward, x).skip(1);
+    let (before, behind) = (there().count(), on().count());
+    let route = buffer.get_mut(..before + behind).ok_or(3_u32)?;
+    let (to, from) = route.split_at_mut(before);
+    for (word, v) in to.iter_mut().rev().zip(there()) {
+        *word = v as u32 + 1;
+    }
+    for (word, v) in from.iter_mut().zip(on()) {
+        *word = v as u32 + 1;
+    }
+    Ok(before + behind)
 }
