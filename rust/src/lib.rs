@@ -10,6 +10,7 @@
 //! ```
 #![warn(missing_docs)]
 
+mod c;
 mod refusal;
 
 pub use refusal::Refusal;
@@ -105,66 +106,6 @@ pub enum Routing<'a> {
     Refused(Refusal),
 }
 
-mod c {
-    extern "C" {
-        pub fn sankayop_read(
-            text: *const u8,
-            text_length: usize,
-            map: *mut u32,
-            map_length: usize,
-        ) -> u64;
-        pub fn sankayop_open(
-            map: *const u32,
-            map_length: usize,
-            n: u32,
-            m: u32,
-            start: u32,
-            target: u32,
-            stretch: u32,
-            bench: *mut u32,
-            bench_length: usize,
-        ) -> u64;
-        pub fn sankayop_forward(
-            map: *const u32,
-            map_length: usize,
-            n: u32,
-            m: u32,
-            bench: *mut u32,
-            bench_length: usize,
-        ) -> u64;
-        pub fn sankayop_backward(
-            map: *const u32,
-            map_length: usize,
-            n: u32,
-            m: u32,
-            bench: *mut u32,
-            bench_length: usize,
-        ) -> u64;
-        pub fn sankayop_area(
-            map: *const u32,
-            map_length: usize,
-            n: u32,
-            m: u32,
-            bench: *const u32,
-            bench_length: usize,
-            locality: u32,
-            mask: *mut u8,
-            mask_length: usize,
-        ) -> u64;
-        pub fn sankayop_route(
-            map: *const u32,
-            map_length: usize,
-            n: u32,
-            m: u32,
-            bench: *const u32,
-            bench_length: usize,
-            crossing: u32,
-            route: *mut u32,
-            route_length: usize,
-        ) -> u64;
-    }
-}
-
 /// An answer of the C interface taken apart: its two values, or the refusal and what goes with it.
 fn parts(answer: u64) -> Result<(u32, u32), (Refusal, u32)> {
     let first = (answer >> 28) as u32 & 0xFFF_FFFF;
@@ -178,15 +119,13 @@ fn parts(answer: u64) -> Result<(u32, u32), (Refusal, u32)> {
     }
 }
 
-// A slice is a pointer that is aligned and not null, also at length 0, and no slice that is lent to be written overlaps
-// another: that is all that the calls ask for, so each `unsafe` below is sound for all arguments.
-
 /// Reads a text in the `.gr` layout and writes its links over the first words of the map.
 ///
 /// Refused: [`Refusal::Layout`] to [`Refusal::Amount`].
 pub fn read(text: &[u8], map: &mut [u32]) -> Reading {
-    match parts(unsafe { c::sankayop_read(text.as_ptr(), text.len(), map.as_mut_ptr(), map.len()) })
-    {
+    let answer =
+        unsafe { c::sankayop_read(text.as_ptr(), text.len(), map.as_mut_ptr(), map.len()) };
+    match parts(answer) {
         Ok((n, m)) => Reading::Read { n, m },
         Err((refusal, line)) => Reading::Refused(refusal, line),
     }
@@ -204,8 +143,7 @@ pub fn open(
     stretch: u32,
     bench: &mut [u32],
 ) -> Opening {
-    let (words, length) = (bench.as_mut_ptr(), bench.len());
-    match parts(unsafe {
+    let answer = unsafe {
         c::sankayop_open(
             map.as_ptr(),
             map.len(),
@@ -214,10 +152,11 @@ pub fn open(
             start,
             target,
             stretch,
-            words,
-            length,
+            bench.as_mut_ptr(),
+            bench.len(),
         )
-    }) {
+    };
+    match parts(answer) {
         Ok(_) => Opening::Opened,
         Err((refusal, _)) => Opening::Refused(refusal),
     }
@@ -231,7 +170,7 @@ fn turn(answer: u64) -> Turn {
     }
 }
 
-/// One turn of the forward half: settles the nearest crossing that is not settled.
+/// One turn of the forward half: settles the crossing nearest to the start that is not settled.
 ///
 /// Refused: [`Refusal::Size`] to [`Refusal::Shape`].
 pub fn forward(map: &[u32], n: u32, m: u32, bench: &mut [u32]) -> Turn {
@@ -268,21 +207,20 @@ pub fn backward(map: &[u32], n: u32, m: u32, bench: &mut [u32]) -> Turn {
 ///
 /// Refused: [`Refusal::Size`] to [`Refusal::NoRoute`].
 pub fn area(map: &[u32], n: u32, m: u32, bench: &[u32], locality: u32, mask: &mut [u8]) -> Filling {
-    let (words, length) = (bench.as_ptr(), bench.len());
-    let (bytes, room) = (mask.as_mut_ptr(), mask.len());
-    match parts(unsafe {
+    let answer = unsafe {
         c::sankayop_area(
             map.as_ptr(),
             map.len(),
             n,
             m,
-            words,
-            length,
+            bench.as_ptr(),
+            bench.len(),
             locality,
-            bytes,
-            room,
+            mask.as_mut_ptr(),
+            mask.len(),
         )
-    }) {
+    };
+    match parts(answer) {
         Ok(_) => Filling::Area,
         Err((refusal, _)) => Filling::Refused(refusal),
     }
@@ -299,21 +237,20 @@ pub fn route<'a>(
     crossing: u32,
     buffer: &'a mut [u32],
 ) -> Routing<'a> {
-    let (words, length) = (bench.as_ptr(), bench.len());
-    let (to, room) = (buffer.as_mut_ptr(), buffer.len());
-    match parts(unsafe {
+    let answer = unsafe {
         c::sankayop_route(
             map.as_ptr(),
             map.len(),
             n,
             m,
-            words,
-            length,
+            bench.as_ptr(),
+            bench.len(),
             crossing,
-            to,
-            room,
+            buffer.as_mut_ptr(),
+            buffer.len(),
         )
-    }) {
+    };
+    match parts(answer) {
         Ok((filled, _)) => Routing::Route(&mut buffer[..filled as usize]),
         Err((refusal, _)) => Routing::Refused(refusal),
     }
