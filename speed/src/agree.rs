@@ -2,7 +2,7 @@
 
 use crate::grid::Random;
 use crate::order::Order;
-use crate::plain::{self, Side};
+use crate::plain::{self, Check, Side};
 use crate::reader;
 use sankayop::{Filling, Reading, Routing, Turn};
 
@@ -29,15 +29,18 @@ fn readers(order: &Order, random: &mut Random) {
 
 /// One turn by each side on a bench of its own; whether the half is done.
 fn turns(order: &mut Order, side: Side) -> bool {
-    let mut bench = order.bench.clone();
-    let plain = plain::turn(&order.map, order.n, order.m, side, &mut bench);
+    let lent = order.bench.clone();
     let answer = match order.turn(side) {
         Turn::Settled { crossing, distance } => Ok(Some((crossing, distance))),
         Turn::Done => Ok(None),
         Turn::Refused(refusal) => Err(refusal.number()),
     };
-    assert_eq!(answer, plain, "the turns answer differently");
-    assert_eq!(order.bench, bench, "the turns leave different benches");
+    for check in [plain::links as Check, plain::links_in_order] {
+        let mut bench = lent.clone();
+        let plain = plain::turn(check, &order.map, order.n, order.m, side, &mut bench);
+        assert_eq!(answer, plain, "the turns answer differently");
+        assert_eq!(order.bench, bench, "the turns leave different benches");
+    }
     answer == Ok(None)
 }
 

@@ -14,7 +14,7 @@ use grid::Grid;
 use measure::{row, Pair, Work, REPEATS};
 use memory::allocated;
 use order::Order;
-use plain::Side;
+use plain::{Check, Side};
 
 /// The rows of calls that are made again and again on the same lent memory.
 fn steady(order: &mut Order) {
@@ -32,7 +32,7 @@ fn steady(order: &mut Order) {
     again(&Order::read, &Order::plain_read, &reader, order);
     order.whole();
     let done = |o: &mut Order| assert_eq!(o.turn(Side::Forward), sankayop::Turn::Done);
-    let plain_done = |o: &mut Order| assert_eq!(o.plain_turn(Side::Forward), None);
+    let plain_done = |o: &mut Order| assert_eq!(o.plain_turn(plain::links, Side::Forward), None);
     again(&done, &plain_done, "turn of a half that is done", order);
     again(&Order::area, &Order::plain_area, "area", order);
     // Through the last crossing that is in the area, but not locally optimal.
@@ -46,14 +46,20 @@ fn steady(order: &mut Order) {
 
 /// The rows of the turns of each half alone, from the opened bench on.
 fn halves(order: &mut Order) {
-    for (what, side) in [
-        ("forward turn", Side::Forward),
-        ("backward turn", Side::Backward),
-    ] {
+    let rows: [(&str, Side, Check); 3] = [
+        ("forward turn", Side::Forward, plain::links),
+        ("backward turn", Side::Backward, plain::links),
+        (
+            "forward turn against links in order",
+            Side::Forward,
+            plain::links_in_order,
+        ),
+    ];
+    for (what, side, check) in rows {
         order.open();
         let calls = order.half(side);
         let library = |o: &mut Order| assert_eq!(o.half(side), calls);
-        let plain = |o: &mut Order| o.plain_half(side);
+        let plain = |o: &mut Order| o.plain_half(check, side);
         row(
             what,
             order,

@@ -2,7 +2,7 @@
 //! over a heap.
 
 use crate::grid::Grid;
-use crate::plain::{self, Side};
+use crate::plain::{self, Check, Side};
 use crate::{heap, reader};
 use sankayop::{bench_words, map_words, route_words, Filling, Opening, Reading, Routing, Turn};
 
@@ -139,12 +139,13 @@ impl Order {
         assert_eq!(opened, Ok(()));
     }
 
-    pub fn plain_turn(&mut self, side: Side) -> Option<(u32, u32)> {
-        plain::turn(&self.map, self.n, self.m, side, &mut self.bench).expect("an opened bench")
+    pub fn plain_turn(&mut self, check: Check, side: Side) -> Option<(u32, u32)> {
+        plain::turn(check, &self.map, self.n, self.m, side, &mut self.bench)
+            .expect("an opened bench")
     }
 
-    pub fn plain_half(&mut self, side: Side) {
-        while self.plain_turn(side).is_some() {}
+    pub fn plain_half(&mut self, check: Check, side: Side) {
+        while self.plain_turn(check, side).is_some() {}
     }
 
     pub fn plain_area(&mut self) {
@@ -174,8 +175,8 @@ impl Order {
     pub fn plain_whole(&mut self) {
         self.plain_open();
         loop {
-            let forward = self.plain_turn(Side::Forward);
-            if self.plain_turn(Side::Backward).is_none() && forward.is_none() {
+            let forward = self.plain_turn(plain::links, Side::Forward);
+            if self.plain_turn(plain::links, Side::Backward).is_none() && forward.is_none() {
                 break;
             }
         }

@@ -12,7 +12,7 @@ pub fn or_else(a: u32, b: u32) -> u32
     if a == 0 { b } else { a }
 }
 
-// Whether all is fine so far, for loops over many places that leave early at none: so the compiler takes several places at a time.
+// Whether all is fine so far, for loops that go over all places and leave early at none: so the compiler can take several at a time.
 pub fn still_fine(fine: bool, fault: u32) -> bool
     ensures { λ r. ⌜ r ≡ (fine && eqb fault 0) ⌝ }
 {
