@@ -1,3 +1,5 @@
+//! The ten numbers of refusal and their words, which are those of include/sankayop.h.
+
 use std::{error::Error, fmt};
 
 /// Why a call was refused: one of the ten numbers of refusal, which prints as its words.

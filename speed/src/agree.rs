@@ -1,97 +1,45 @@
 //! All sides give the same answers and leave the same memory, before anything is timed.
 
+use crate::calls::{Calls, Library, Plain};
 use crate::grid::Random;
 use crate::order::Order;
-use crate::plain::{self, Check, Side};
-use crate::reader;
-use sankayop::{Filling, Reading, Routing, Turn};
+use crate::plain::{self, Side};
+use std::fmt::Debug;
+
+/// One call by each side, each with memory of its own; its answer.
+fn same<A: PartialEq + Debug>(order: &mut Order, call: impl Fn(&dyn Calls, &mut Order) -> A) -> A {
+    let before = order.clone();
+    let answer = call(&Library, order);
+    for plain in [Plain(plain::links), Plain(plain::links_in_order)] {
+        let mut other = before.clone();
+        assert_eq!(answer, call(&plain, &mut other), "an answer differs");
+        assert!(*order == other, "what is left in memory differs");
+    }
+    answer
+}
 
 /// The readers on the text, and on the text with one byte changed.
 fn readers(order: &Order, random: &mut Random) {
-    let mut text = order.text.clone();
+    let mut changed = order.clone();
     for _ in 0..200 {
-        let (mut ours, mut others) = (vec![7; order.map.len()], vec![7; order.map.len()]);
-        let answer = match sankayop::read(&text, &mut ours) {
-            Reading::Read { n, m } => Ok((n, m)),
-            Reading::Refused(refusal, line) => Err((refusal.number(), line)),
-        };
-        assert_eq!(
-            answer,
-            reader::read(&text, &mut others),
-            "the readers answer differently"
-        );
-        assert_eq!(ours, others, "the readers write different maps");
-        text.copy_from_slice(&order.text);
-        let at = random.below(text.len() as u32) as usize;
-        text[at] = random.pick(b"0123456789 acps\n\r");
+        changed.map.fill(7);
+        let _ = same(&mut changed, |calls, order| calls.read(order));
+        changed.text.copy_from_slice(&order.text);
+        let at = random.below(changed.text.len() as u32) as usize;
+        changed.text[at] = random.pick(b"0123456789 acps\n\r");
     }
-}
-
-/// One turn by each side on a bench of its own; whether the half is done.
-fn turns(order: &mut Order, side: Side) -> bool {
-    let lent = order.bench.clone();
-    let answer = match order.turn(side) {
-        Turn::Settled { crossing, distance } => Ok(Some((crossing, distance))),
-        Turn::Done => Ok(None),
-        Turn::Refused(refusal) => Err(refusal.number()),
-    };
-    for check in [plain::links as Check, plain::links_in_order] {
-        let mut bench = lent.clone();
-        let plain = plain::turn(check, &order.map, order.n, order.m, side, &mut bench);
-        assert_eq!(answer, plain, "the turns answer differently");
-        assert_eq!(order.bench, bench, "the turns leave different benches");
-    }
-    answer == Ok(None)
-}
-
-fn areas(order: &mut Order) {
-    let Order {
-        n,
-        m,
-        ref map,
-        ref bench,
-        locality,
-        ..
-    } = *order;
-    let mut mask = order.mask.clone();
-    let plain = plain::area(map, n, m, bench, locality, &mut mask);
-    let answer = match sankayop::area(map, n, m, bench, locality, &mut order.mask) {
-        Filling::Area => Ok(()),
-        Filling::Refused(refusal) => Err(refusal.number()),
-    };
-    assert_eq!(answer, plain, "the areas answer differently");
-    assert_eq!(order.mask, mask, "the areas fill different masks");
-}
-
-fn routes(order: &mut Order, crossing: u32) {
-    let Order {
-        n,
-        m,
-        ref map,
-        ref bench,
-        ..
-    } = *order;
-    let mut route = order.route.clone();
-    let plain = plain::route(map, n, m, bench, crossing, &mut route);
-    let answer = match sankayop::route(map, n, m, bench, crossing, &mut order.route) {
-        Routing::Route(crossings) => Ok(crossings.len()),
-        Routing::Refused(refusal) => Err(refusal.number()),
-    };
-    assert_eq!(answer, plain, "the routes answer differently");
-    assert_eq!(order.route, route, "the routes differ");
 }
 
 /// The whole order, step by step, and the routes through all crossings.
 fn wholes(order: &mut Order) {
-    order.plain_open();
-    let opened = order.bench.clone();
-    order.open();
-    assert_eq!(order.bench, opened, "the opened benches differ");
-    while !(turns(order, Side::Forward) & turns(order, Side::Backward)) {}
-    areas(order);
+    let _ = same(order, |calls, order| calls.open(order));
+    let done =
+        |order: &mut Order, side| same(order, |calls, order| calls.turn(order, side)) == Ok(None);
+    while !(done(order, Side::Forward) & done(order, Side::Backward)) {}
     for crossing in 0..=order.n + 1 {
-        routes(order, crossing);
+        let _ = same(order, |calls, order| calls.route(order, crossing));
     }
+    assert_eq!(same(order, |calls, order| calls.area(order)), Ok(()));
     let mask = order.mask.clone();
     assert_eq!(
         order.heap_whole(),
@@ -102,9 +50,9 @@ fn wholes(order: &mut Order) {
 }
 
 /// Areas, routes and turns on the map and the bench with one word changed, so that their checks agree too.
-fn damaged(order: &mut Order, random: &mut Random) {
+fn damaged(order: &Order, random: &mut Random) {
     for _ in 0..500 {
-        let (map, bench) = (order.map.clone(), order.bench.clone());
+        let mut order = order.clone();
         let word = random.pick(&[0, 1, 2, 3, order.n, order.n + 1, 70_000, u32::MAX]);
         let lent = if random.below(4) == 0 {
             &mut order.map
@@ -113,11 +61,12 @@ fn damaged(order: &mut Order, random: &mut Random) {
         };
         let at = random.below(lent.len() as u32) as usize;
         lent[at] = word;
-        areas(order);
-        routes(order, order.n / 2);
-        turns(order, Side::Forward);
-        turns(order, Side::Backward);
-        (order.map, order.bench) = (map, bench);
+        let middle = order.n / 2;
+        let _ = same(&mut order, |calls, order| calls.area(order));
+        let _ = same(&mut order, |calls, order| calls.route(order, middle));
+        for side in [Side::Forward, Side::Backward] {
+            let _ = same(&mut order, |calls, order| calls.turn(order, side));
+        }
     }
 }
 

@@ -8,10 +8,8 @@ pub const REPEATS: usize = 25;
 
 pub type Work<'a> = &'a dyn Fn(&mut Order);
 
-/// Two ways to do the same work.
-pub struct Pair<'a> {
-    pub library: Work<'a>,
-    pub other: Work<'a>,
+/// How a piece of work is timed.
+pub struct Setting {
     /// Done before the work each time, and not timed.
     pub ready: fn(&mut Order),
     /// How often the work is done for one figure.
@@ -20,28 +18,22 @@ pub struct Pair<'a> {
     pub calls: u32,
 }
 
-impl<'a> Pair<'a> {
-    pub fn new(library: Work<'a>, other: Work<'a>) -> Self {
-        Pair {
-            library,
-            other,
-            ready: |_| (),
-            times: 1,
-            calls: 1,
-        }
-    }
-}
+pub const ONCE: Setting = Setting {
+    ready: |_| (),
+    times: 1,
+    calls: 1,
+};
 
 /// The seconds that a call takes.
-fn time(order: &mut Order, pair: &Pair, work: Work) -> f64 {
+fn time(order: &mut Order, setting: &Setting, work: Work) -> f64 {
     let mut spent = Duration::ZERO;
-    for _ in 0..pair.times {
-        (pair.ready)(order);
+    for _ in 0..setting.times {
+        (setting.ready)(order);
         let begun = Instant::now();
         work(black_box(order));
         spent += begun.elapsed();
     }
-    spent.as_secs_f64() / f64::from(pair.times * pair.calls)
+    spent.as_secs_f64() / f64::from(setting.times * setting.calls)
 }
 
 /// The first quartile, the median and the third quartile.
@@ -51,15 +43,15 @@ fn quartiles(mut values: Vec<f64>) -> [f64; 3] {
 }
 
 /// Prints a row of the table. The two take turns, and in going first, so that what slows the machine slows both.
-pub fn row(what: &str, order: &mut Order, pair: &Pair) {
+pub fn row(what: &str, order: &mut Order, setting: &Setting, library: Work, other: Work) {
     let (mut ours, mut others) = (Vec::new(), Vec::new());
     for repeat in 0..REPEATS {
         if repeat % 2 == 0 {
-            ours.push(time(order, pair, pair.library));
-            others.push(time(order, pair, pair.other));
+            ours.push(time(order, setting, library));
+            others.push(time(order, setting, other));
         } else {
-            others.push(time(order, pair, pair.other));
-            ours.push(time(order, pair, pair.library));
+            others.push(time(order, setting, other));
+            ours.push(time(order, setting, library));
         }
     }
     let ratios = ours

@@ -37,7 +37,7 @@ fn links_fine(map: &[u32], n: u32, m: usize) -> bool
     fine
 }
 
-// The first number of refusal of links 1 to m.
+// The first number of refusal of links 1 to m, link by link.
 fn first_fault(map: &[u32], n: u32, m: usize) -> u32
     requires { ⌜ 3 * m ≤ length (now map) ⌝ }
     ensures { λ r. ⌜ r ≡ firstFrom (linkFault n (now (map .entry))) 1 m ⌝ }
@@ -53,7 +53,7 @@ fn first_fault(map: &[u32], n: u32, m: usize) -> u32
     0
 }
 
-// The same. That a map has none is asked first, as it is told several links at a time.
+// The first number of refusal of links 1 to m, had by asking first whether there is any: the compiler takes several links at a time for that.
 fn links_fault(map: &[u32], n: u32, m: usize) -> u32
     requires { ⌜ 3 * m ≤ length (now map) ⌝ }
     ensures { λ r. ⌜ r ≡ firstFrom (linkFault n (now (map .entry))) 1 m ⌝ }
