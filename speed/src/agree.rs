@@ -21,7 +21,7 @@ fn same<A: PartialEq + Debug>(order: &mut Order, call: impl Fn(&dyn Calls, &mut 
 /// The readers on the text, and on the text with one byte changed.
 fn readers(order: &Order, random: &mut Random) {
     let mut changed = order.clone();
-    for _ in 0..200 {
+    for _ in 0..1000 {
         changed.map.fill(7);
         let _ = same(&mut changed, |calls, order| calls.read(order));
         changed.text.copy_from_slice(&order.text);
@@ -39,14 +39,19 @@ fn wholes(order: &mut Order) {
     for crossing in 0..=order.n + 1 {
         let _ = same(order, |calls, order| calls.route(order, crossing));
     }
-    assert_eq!(same(order, |calls, order| calls.area(order)), Ok(()));
-    let mask = order.mask.clone();
-    assert_eq!(
-        order.heap_whole(),
-        order.bench[sankayop::OPTIMUM_AT],
-        "the heap finds another optimum"
-    );
-    assert_eq!(order.mask, mask, "the heap finds another area");
+    for locality in [0, 100, 500, 1000, 2000, plain::CEILING] {
+        let mut order = order.clone();
+        order.locality = locality;
+        assert_eq!(same(&mut order, |calls, order| calls.area(order)), Ok(()));
+        let mask = order.mask.clone();
+        let optimum = order.bench[sankayop::OPTIMUM_AT];
+        assert_eq!(
+            order.heap_whole(),
+            optimum,
+            "the heap finds another optimum"
+        );
+        assert_eq!(order.mask, mask, "the heap finds another area");
+    }
 }
 
 /// Areas, routes and turns on the map and the bench with one word changed, so that their checks agree too.
