@@ -1,4 +1,6 @@
 // The area and the routes of a finished bench: what is refused, and what is filled.
+#![tactic(auto)]
+
 ghost use Rattle.std.specs.Prelude.{◌≡◌, ℕ, ◌-◌, ◌≤◌, length, get_or};
 ghost use Rattle.std.proofs.lemmas.List.Edits.{sets};
 ghost use Rattle.limits.specs.Limits.{Between};

@@ -1,4 +1,6 @@
 // The calls on a bench: its opening and its turns, its area and its routes.
+#![tactic(auto)]
+
 ghost use Rattle.std.specs.Prelude.{◌≡◌, ◌≤◌, length};
 ghost use Rattle.map.specs.Map.{Valid};
 ghost use Rattle.map.specs.declared.Side.TheVariants.{Forward, Backward};

@@ -1,5 +1,7 @@
 // The program: an order as four arguments, and a road map's text on standard input. It prints the optimum and the bypass area, or the
 // first refusal alone.
+#![tactic(auto)]
+
 ghost use Rattle.std.specs.Prelude.{◌≡◌};
 ghost use Rattle.text.specs.Text.{map_after};
 ghost use Rattle.map.specs.Walk.{other as other_of};

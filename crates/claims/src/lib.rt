@@ -1,4 +1,6 @@
 // Ties the demands to the public calls: a bench is opened, and turns are taken in the order of a schedule.
+#![tactic(auto)]
+
 ghost use Rattle.std.specs.Prelude.{◌≡◌};
 ghost use Rattle.bench.specs.Calls.{said_opening, open_said, turn_words};
 ghost use Rattle.demands.specs.Calls.{side_of, turns_words, mixture_words};

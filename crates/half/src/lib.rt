@@ -1,4 +1,6 @@
 // One half of a bench: n distances, n link numbers and n states, in a part lent on to be written.
+#![tactic(auto)]
+
 ghost use Rattle.std.specs.Prelude.{◌≡◌, ◌*◌, ◌+◌, ◌≤◌, ◌<◌, length, get_or};
 ghost use Rattle.limits.specs.Limits.{Between};
 ghost use Rattle.map.specs.Map.{Valid};

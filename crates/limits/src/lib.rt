@@ -1,4 +1,6 @@
 // The ranges of the numbers of a road map and of an order, each with its number of refusal; 0 stands for no refusal.
+#![tactic(auto)]
+
 ghost use Rattle.std.specs.Prelude.{◌≡◌, ◌&&◌, eqb};
 ghost use Rattle.limits.specs.First.{or_else};
 ghost use Rattle.limits.specs.Limits.{number_outside, n_fault, m_fault, crossing_fault, cost_fault, stretch_fault, locality_fault, room_fault};

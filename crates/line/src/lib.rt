@@ -1,4 +1,6 @@
 // One line of a text, its LF included, and where the lines of a text end.
+#![tactic(auto)]
+
 ghost use Rattle.std.specs.Prelude.{◌≡◌};
 ghost use Rattle.line.specs.Line.{agree_of, field_at, comment_of, size_of, link_of, line_of};
 ghost use Rattle.line.specs.Lines.{line_end};

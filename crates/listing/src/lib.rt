@@ -1,4 +1,6 @@
 // The lines that the program prints: a refusal's, and the list of an area.
+#![tactic(auto)]
+
 ghost use Rattle.std.specs.Prelude.{◌≡◌, ◌+◌, ◌≤◌, length};
 ghost use Rattle.limits.specs.Limits.{Between};
 ghost use Rattle.map.specs.declared.Side.TheVariants.{Forward, Backward};

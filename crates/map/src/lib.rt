@@ -1,4 +1,6 @@
 // The road map as it is lent: tail, head and cost of each link in turn.
+#![tactic(auto)]
+
 ghost use Rattle.std.specs.Prelude.{◌≡◌, ◌*◌, ◌≤◌, length};
 ghost use Rattle.limits.specs.First.{first_from, all_fine};
 ghost use Rattle.map.specs.Map.{link_fault, map_fault};

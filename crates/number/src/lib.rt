@@ -1,4 +1,6 @@
 // A number at a place of a text.
+#![tactic(auto)]
+
 ghost use Rattle.std.specs.Prelude.{◌≡◌};
 ghost use Rattle.number.specs.Number.{digit_of, number_at};
 

@@ -1,4 +1,6 @@
 // What the programs share that run rows of numbers: reading a row's numbers, and printing.
+#![tactic(auto)]
+
 ghost use Rattle.std.specs.Prelude.{◌≤◌, length};
 
 use libc::STDOUT_FILENO;

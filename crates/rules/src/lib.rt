@@ -1,4 +1,6 @@
 // Rules 1 and 4 on a bench: the crossing that a half settles next, its distance, whether the half is done, and the marks.
+#![tactic(auto)]
+
 ghost use Rattle.std.specs.Prelude.{◌≡◌, ◌≤◌, length, get_or};
 ghost use Rattle.limits.specs.Limits.{Between};
 ghost use Rattle.half.specs.Half.{dist, nearest_open};

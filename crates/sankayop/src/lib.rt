@@ -1,4 +1,6 @@
 // The C interface: each public call, with its answer in one number. A slice passes as a pointer and then a length.
+#![tactic(auto)]
+
 ghost use Rattle.std.specs.Prelude.{◌≡◌, length};
 ghost use Rattle.map.specs.declared.Side.TheVariants.{Forward, Backward};
 ghost use Rattle.text.specs.Text.{said as said_reading, read_text, map_after};

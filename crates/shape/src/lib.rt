@@ -1,4 +1,6 @@
 // The layout of a bench, and rules 1, 3 and 4 of a turn on single words, with the one comparison with stretch times optimum.
+#![tactic(auto)]
+
 ghost use Rattle.std.specs.Prelude.{◌≡◌, ◌≤◌};
 ghost use Rattle.shape.specs.Bench.{half_at, marks_at, bench_words};
 ghost use Rattle.shape.specs.Rules.{within as within_of, beyond as beyond_of, found as found_of, mark_by};

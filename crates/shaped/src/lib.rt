@@ -1,4 +1,6 @@
 // The check of a bench's shape, and of what every call on a bench is lent.
+#![tactic(auto)]
+
 ghost use Rattle.std.specs.Prelude.{◌≡◌, ◌*◌, ◌≤◌, length};
 ghost use Rattle.shape.specs.Bench.{half as half_of, bench_words, parse};
 ghost use Rattle.shaped.specs.Shape.{unlike as unlike_of, unseen_fault, seen_fault, entry_fault, half_fault, marks_fault, size_fault, ends_fault, optimum_fault, head_fault, shape_fault};

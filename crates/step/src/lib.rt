@@ -1,4 +1,6 @@
 // What one line of a road map's text does to what has been read.
+#![tactic(auto)]
+
 ghost use Rattle.std.specs.Prelude.{◌≡◌};
 ghost use Rattle.line.specs.Line.{line_of};
 ghost use Rattle.step.specs.Step.{first_of, size_fault, link_fault, step_by, size_step, link_step, taken};

@@ -1,5 +1,7 @@
 // The reader of a road map's text: it holds the text and the place it has come to, checks all that is left first, and then
 // writes the map. What takes or makes a `Reader` is thin, over functions on a slice and a number.
+#![tactic(auto)]
+
 ghost use Rattle.std.specs.Prelude.{◌≡◌, ◌+◌, ◌≤◌, length, drop};
 ghost use Rattle.std.proofs.lemmas.List.Edits.{sets};
 ghost use Rattle.line.specs.Line.{line_of};

@@ -1,6 +1,8 @@
 // Rows about texts and lent maps, on standard input. A row that begins with a letter names a file, the words of the
 // map slice and how often the file's last line stands in the text, and gets what the reader answers; before it every
 // word of the map is 7. A row that begins with a digit has n, m and the words of a map, and gets its number of refusal.
+#![tactic(auto)]
+
 ghost use Rattle.std.specs.Prelude.{◌≤◌, ◌<◌, length};
 
 use libc::STDIN_FILENO;

@@ -1,4 +1,6 @@
 // Trails of a bench: whether they are sound, and walking along them.
+#![tactic(auto)]
+
 ghost use Rattle.std.specs.Prelude.{◌≡◌, ◌*◌, length};
 ghost use Rattle.limits.specs.Limits.{Between};
 ghost use Rattle.map.specs.Map.{Valid};

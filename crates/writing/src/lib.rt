@@ -1,4 +1,6 @@
 // The writing of an opened bench and of a settled turn. Each half is a part that is lent on to be written.
+#![tactic(auto)]
+
 ghost use Rattle.std.specs.Prelude.{◌≡◌, ℕ, ◌≤◌, length, drop, replicate};
 ghost use Rattle.limits.specs.Limits.{Between};
 ghost use Rattle.map.specs.Map.{Valid};

@@ -1,0 +1,12 @@
+-- `map::first_fault` meets its contract. The loop's invariant: the first fault of all links is that of the links from k on. Assumes nothing.
+use mathlib.Core.Path.{◌≡◌}
+use Prim.Native.Nat.{◌≤◌, ◌-◌, ◌+◌}
+use Rattle.limits.specs.First.{first_from}
+use Rattle.map.specs.Map.{link_fault}
+use Rattle.map.proofs.first_fault.Given as goal
+
+abbrev pub invariant-loop-k : goal.invariant-loop-k
+invariant-loop-k l = (1 ≤ l.k) × (l.k ≤ l.m + 1) × (first_from (link_fault l.n l.map) 1 l.m ≡ first_from (link_fault l.n l.map) l.k (l.m + 1 - l.k))
+
+abbrev pub decreases-loop-k : goal.decreases-loop-k
+decreases-loop-k l = l.m + 1 - l.k
