@@ -14,14 +14,14 @@ ghost use Rattle.bench.specs.Routes.{said_routing, filled_words, route_said, rou
 use map::Side;
 
 // What opening answers.
-#[derive(Drop)]
+#[derive(Clone, Copy)]
 pub enum Opening {
     Opened,
     Refused(u32),
 }
 
 // What a turn answers: the crossing settled and its distance, that the half is done, or a number of refusal.
-#[derive(Drop)]
+#[derive(Clone, Copy)]
 pub enum Turn {
     Settled(u32, u32),
     Done,
@@ -29,14 +29,14 @@ pub enum Turn {
 }
 
 // What the area call answers.
-#[derive(Drop)]
+#[derive(Clone, Copy)]
 pub enum Filling {
     Area,
     Refused(u32),
 }
 
 // What filling a route answers: its length, or a number of refusal.
-#[derive(Drop)]
+#[derive(Clone, Copy)]
 pub enum Routing {
     Length(u32),
     Refused(u32),

@@ -11,7 +11,7 @@
 use libc::STDIN_FILENO;
 
 // How many numbers the row of the map had, and how many words the bench has.
-#[derive(Drop)]
+#[derive(Clone, Copy)]
 struct Setting {
     numbers: usize,
     room: usize,

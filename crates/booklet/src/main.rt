@@ -27,7 +27,7 @@ const BENCH: usize = 6 + 7 * CROSSINGS;
 // ---- the arguments
 
 // An order and its locality.
-#[derive(Drop)]
+#[derive(Clone, Copy)]
 struct Order {
     start: u32,
     target: u32,
@@ -36,13 +36,13 @@ struct Order {
 }
 
 // What one argument is, and what all of them are.
-#[derive(Drop)]
+#[derive(Clone, Copy)]
 enum Argument {
     Value(u32),
     Bad,
 }
 
-#[derive(Drop)]
+#[derive(Clone, Copy)]
 enum Arguments {
     Given(Order),
     Wrong,
@@ -99,7 +99,7 @@ fn read_arguments() -> Arguments {
 // ---- the survey: from the text to the area
 
 // How a survey ends: with the area of a map of n crossings, or with a number of refusal and its line.
-#[derive(Drop)]
+#[derive(Clone, Copy)]
 enum Outcome {
     Area(u32),
     Refused(u32, u32),

@@ -16,7 +16,7 @@ const CEILING: u64 = 268365825;
 const UNKNOWN: u32 = 4294967295;
 
 // What a half holds of one crossing.
-#[derive(Drop)]
+#[derive(Clone, Copy)]
 pub struct Entry {
     pub dist: u32,
     pub link: u32,

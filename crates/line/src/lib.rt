@@ -8,14 +8,14 @@ ghost use Rattle.line.specs.Lines.{line_end};
 use number::Number;
 
 // A number of a line and the place where it begins.
-#[derive(Drop)]
+#[derive(Clone, Copy)]
 pub struct Field {
     pub value: u32,
     pub place: usize,
 }
 
 // What a line is. A line that is none has the first place that cannot belong there.
-#[derive(Drop)]
+#[derive(Clone, Copy)]
 pub enum Line {
     Comment,
     // N and M

@@ -6,7 +6,7 @@ ghost use Rattle.limits.specs.First.{first_from, all_fine};
 ghost use Rattle.map.specs.Map.{link_fault, map_fault};
 
 // Which way links are driven: from tail to head, or from head to tail.
-#[derive(Drop)]
+#[derive(Clone, Copy)]
 pub enum Side {
     Forward,
     Backward,

@@ -5,7 +5,7 @@ ghost use Rattle.std.specs.Prelude.{◌≡◌};
 ghost use Rattle.number.specs.Number.{digit_of, number_at};
 
 // A number read at a place: its value and the place after it, or the first place that cannot belong to one.
-#[derive(Drop)]
+#[derive(Clone, Copy)]
 pub enum Number {
     Good(u32, usize),
     Bad(usize),

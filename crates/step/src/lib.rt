@@ -8,7 +8,7 @@ ghost use Rattle.step.specs.Step.{first_of, size_fault, link_fault, step_by, siz
 use line::{Field, Line};
 
 // What has been read: n and m, 0 before the `p` line, and how many links.
-#[derive(Drop)]
+#[derive(Clone, Copy)]
 pub struct State {
     pub n: u32,
     pub m: u32,
@@ -16,14 +16,14 @@ pub struct State {
 }
 
 // A number of refusal, 0 for none, and the place in the line of what is at fault.
-#[derive(Drop)]
+#[derive(Clone, Copy)]
 pub struct Fault {
     pub number: u32,
     pub place: usize,
 }
 
 // What a line does: the state after it, or its fault.
-#[derive(Drop)]
+#[derive(Clone, Copy)]
 pub enum Step {
     Go(State),
     Stop(Fault),

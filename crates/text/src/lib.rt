@@ -13,7 +13,7 @@ use line::Line;
 use step::{State, Step};
 
 // The answer: n and m, or a number of refusal and its line, 0 for the length.
-#[derive(Drop)]
+#[derive(Clone, Copy)]
 pub enum Reading {
     Read(u32, u32),
     Refused(u32, u32),
@@ -131,7 +131,7 @@ fn read_from(text: &[u8], at: usize, map: &mut [u32]) -> Reading
 }
 
 // The reader: the text, and the place it has come to.
-#[derive(Drop)]
+#[derive(Clone, Copy)]
 pub struct Reader<'a> {
     pub text: &'a [u8],
     pub at: usize,
