@@ -14,11 +14,11 @@ use Rattle.text.proofs.fill.Goals as goal
 pub slice_bounds-put_line-count : goal.slice_bounds-put_line-count
 slice_bounds-put_line-count c = omega (arith, line_ends _ _ _ c.loop-at-test.true c.line_end-end.ensures)
 
-pub slice-bounds-put-line-start : goal.slice-bounds-put-line-start
-slice-bounds-put-line-start c = omega (arith, line_ends _ _ _ c.loop-at-test.true c.line_end-end.ensures)
+pub slice_bounds-put_line-start : goal.slice_bounds-put_line-start
+slice_bounds-put_line-start c = omega (arith, line_ends _ _ _ c.loop-at-test.true c.line_end-end.ensures)
 
-pub slice-bounds-put-line-end : goal.slice-bounds-put-line-end
-slice-bounds-put-line-end c = omega (arith, line_ends _ _ _ c.loop-at-test.true c.line_end-end.ensures)
+pub slice_bounds-put_line-end : goal.slice_bounds-put_line-end
+slice_bounds-put_line-end c = omega (arith, line_ends _ _ _ c.loop-at-test.true c.line_end-end.ensures)
 
 pub put_line-to-requires : goal.put_line-to-requires
 put_line-to-requires c = let e = line_ends _ _ _ c.loop-at-test.true c.line_end-end.ensures in let l = c.loop-at in omega (arith, l.invariant.2, fill_room l.map l.to _ (lines_of (drop c.line_end-end.result _)) _ e.first)
@@ -32,10 +32,10 @@ loop-at-preserved c =
     let l = c.loop-at in
     let words = c.put_line-to.ensures in
     let s = c.args.text.now in
-    let kept = ap length words.1 ∙ length-sets l.map l.to (line_words (line_of (take (c.line_end-end.result - l.at) (drop l.at s)))) in (
+    let kept = ap length words.map_after ∙ length-sets l.map l.to (line_words (line_of (take (c.line_end-end.result - l.at) (drop l.at s)))) in (
       e.within,
       kept ∙ l.invariant.1,
-      omega (arith, l.invariant.2, fill_room l.map l.to _ (lines_of (drop c.line_end-end.result _)) _ e.first, words.0, kept),
+      omega (arith, l.invariant.2, fill_room l.map l.to _ (lines_of (drop c.line_end-end.result _)) _ e.first, words.value, kept),
       l.invariant.3 ∙ fill_more l.map l.to _ (lines_of (drop c.line_end-end.result _)) _ e.first ∙ cc,
     )
 

@@ -22,11 +22,11 @@ loop-at-init c = (search rules, search rules, search rules, rw (le-ltb 1048576 _
 pub slice_bounds-take_line-count : goal.slice_bounds-take_line-count
 slice_bounds-take_line-count c = omega (arith, line_ends _ _ _ c.loop-at-test.true c.line_end-end.ensures)
 
-pub slice-bounds-take-line-start : goal.slice-bounds-take-line-start
-slice-bounds-take-line-start c = omega (arith, line_ends _ _ _ c.loop-at-test.true c.line_end-end.ensures)
+pub slice_bounds-take_line-start : goal.slice_bounds-take_line-start
+slice_bounds-take_line-start c = omega (arith, line_ends _ _ _ c.loop-at-test.true c.line_end-end.ensures)
 
-pub slice-bounds-take-line-end : goal.slice-bounds-take-line-end
-slice-bounds-take-line-end c = omega (arith, line_ends _ _ _ c.loop-at-test.true c.line_end-end.ensures)
+pub slice_bounds-take_line-end : goal.slice_bounds-take_line-end
+slice_bounds-take_line-end c = omega (arith, line_ends _ _ _ c.loop-at-test.true c.line_end-end.ensures)
 
 pub returns-in-Stop : goal.returns-in-Stop
 returns-in-Stop c = let e = line_ends _ _ _ c.loop-at-test.true c.line_end-end.ensures in let l = c.loop-at in cc (l.invariant.3, e.first, read_stop _ l.state l.number _ (lines_of (drop c.line_end-end.result _)) c.in-Stop.ensures)

@@ -1,0 +1,13 @@
+-- `shaped::half_fault` meets its contract. The loop's invariant: fine says that none of the crossings 1 to v has a fault. Assumes nothing.
+use mathlib.Core.Path.{◌≡◌}
+use Prim.Native.Nat.{◌≤◌, ◌-◌}
+use Rattle.limits.specs.First.{all_fine}
+use Rattle.half.specs.Half.{entry}
+use Rattle.shaped.specs.Shape.{entry_fault}
+use Rattle.shaped.proofs.half_fault.Given as goal
+
+abbrev pub invariant-loop-v : goal.invariant-loop-v
+invariant-loop-v l = (l.v ≤ l.n) × (l.fine ≡ all_fine (λ w. entry_fault l.m (entry l.n l.half w)) l.v)
+
+abbrev pub decreases-loop-v : goal.decreases-loop-v
+decreases-loop-v l = l.n - l.v
