@@ -1,10 +1,10 @@
 -- The parts of a bench as the checks are lent them, and the ways that the checks of the area and the route go. Assumes nothing.
 use mathlib.Core.Path.{◌≡◌, refl, sym, subst, ◌∙◌}
-use mathlib.Core.Bool.{Bool, true, false, not, ◌&&◌}
+use mathlib.Core.Bool.{Bool, true, false, ◌&&◌}
 use mathlib.Core.List.{List}
 use Prim.Native.Nat.{ℕ, ◌+◌, ◌*◌, ◌-◌}
 use native.Mathlib.Omega.{arith}
-use borrow.Author.Tests.{eq-eqb, ne_eqb, not-true, not-false}
+use borrow.Author.Tests.{eq-eqb, ne_eqb}
 use lib.ListN.{get_or, take, drop}
 use Rattle.limits.specs.First.{or_else}
 use Rattle.limits.proofs.Cases.{and_both, cond_then}
@@ -35,25 +35,25 @@ module _ (n : ℕ) (x : List ℕ) (s : Side) {a e : ℕ} (p : a ≡ half_at s n)
 module _ (b : Bench) where
   pub fault_done : done_fault b ≡ 0 → (s : Side) → done s b ≡ true
   unfolding done_fault
-  fault_done z = let p = and_both _ _ (cond_then (done Forward b && done Backward b) z (λ e. omega arith)).0 in λ s. elim s [ Forward ↦ p.0 | Backward ↦ p.1 ]
+  fault_done z = let p = and_both _ _ (cond_then (done Forward b && done Backward b) z (λ e. omega arith)).0 in λ s. elim s as (λ t. done t b ≡ true) [ Forward ↦ p.0 | Backward ↦ p.1 ]
 
   pub done_fault_lem : ((s : Side) → done s b ≡ true) → done_fault b ≡ 0
   unfolding done_fault
   done_fault_lem d = rw (d Forward, d Backward)
 
 module _ (b : Bench) {f : Bool} (p : f ≡ done Forward b) where
-  pub not_done : not f ≡ true → 8 ≡ done_fault b
+  pub not_done : f ≡ false → 8 ≡ done_fault b
   unfolding done_fault
-  not_done h = rw (← p, not-true f h)
+  not_done h = rw (← p, h)
 
-  module _ (h : not f ≡ false) {g : Bool} (q : g ≡ done Backward b) where
-    pub not_done_back : not g ≡ true → 8 ≡ done_fault b
+  module _ (h : f ≡ true) {g : Bool} (q : g ≡ done Backward b) where
+    pub not_done_back : g ≡ false → 8 ≡ done_fault b
     unfolding done_fault
-    not_done_back k = rw (← p, not-false f h, ← q, not-true g k)
+    not_done_back k = rw (← p, h, ← q, k)
 
-    pub both_done : not g ≡ false → 0 ≡ done_fault b
+    pub both_done : g ≡ true → 0 ≡ done_fault b
     unfolding done_fault
-    both_done k = rw (← p, not-false f h, ← q, not-false g k)
+    both_done k = rw (← p, h, ← q, k)
 
 module _ (n : ℕ) (x : List ℕ) where
   pub is_unknown : get_or x 5 0 ≡ unknown → 9 ≡ unknown_fault (parse n x)
