@@ -167,7 +167,7 @@ module _ {map : List ℕ} {n m start target stretch : ℕ} (order : Order map n 
   optimum_cases i j = go (known_cases Forward i) (known_cases Backward j)
     where
       go : Known Forward i → Known Backward j → Optimum i j
-      go (yet a p) (yet b q) = missing (omega arith) (λ s. elim s [ Forward ↦ a | Backward ↦ b ])
+      go (yet a p) (yet b q) = missing (omega arith) (λ s. elim s as (λ t. state n (after t (by_side t i j)) (goal t) ≢ 2) [ Forward ↦ a | Backward ↦ b ])
       go (yet a p) (got _ q r l) = present (omega arith) r l
       go (got _ p r l) (yet b q) = present (omega arith) r l
       go (got _ p r l) (got _ q _ _) = present (omega arith) r l

@@ -204,7 +204,7 @@ module _ {map : List ℕ} {n m start target stretch : ℕ} (order : Order map n 
               area = p;
               trail = way;
               is_trail = λ s. held s v (settled_both s).0;
-              optimal = λ s. elim s [ Forward ↦ local_optimal Forward locality u.0 | Backward ↦ local_optimal Backward locality u.1 ];
+              optimal = λ s. elim s as (λ t. Optimal map m start target t locality v (way t)) [ Forward ↦ local_optimal Forward locality u.0 | Backward ↦ local_optimal Backward locality u.1 ];
             },
         λ l.
             let f : (s : Side) → Optimal map m start target s locality v (way s) = λ s. rw (trail_same (held s v (settled_both s).0) (l.is_trail s)) (l.optimal s) in
