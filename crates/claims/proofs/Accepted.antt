@@ -41,9 +41,9 @@ links_valid n s ws rest (link l more u v w words e f c p q t r) (suc (suc j)) a 
     subst (λ (z : List ℕ). Link n (z ++ rest) (suc (suc j))) (sym f)
     (link_behind u v w (words ++ rest) j n (links_valid n more words rest r (suc j) (omega arith) (omega (arith, ap length f))))
 
-layout_valid : (n m : ℕ) (s ws rest : List ℕ) → Layout n m ws s → (k : ℕ) → 1 ≤ k → 3 * k ≤ length ws → Link n (ws ++ rest) k
-layout_valid n m s ws rest (skipped l more e c r) = layout_valid n m more ws rest r
-layout_valid n m s ws rest (sized l more e c r) = links_valid n more ws rest r
+layout_valid : (n m : ℕ) (ws s rest : List ℕ) → Layout n m ws s → (k : ℕ) → 1 ≤ k → 3 * k ≤ length ws → Link n (ws ++ rest) k
+layout_valid n m ws s rest (skipped l more e c r) = layout_valid n m ws more rest r
+layout_valid n m ws s rest (sized l more e c r) = links_valid n more ws rest r
 
 module _ (s map : List ℕ) {n m : ℕ} (e : read_text (length map) s ≡ told (n ∷ m ∷ [])) where
   accepted_valid : Valid n m (map_after s map)
@@ -55,7 +55,7 @@ module _ (s map : List ℕ) {n m : ℕ} (e : read_text (length map) s ≡ told (
         n_in = g.n_in;
         m_in = g.m_in;
         room = omega (arith, g.all, length-append ws (drop (length ws) map));
-        links = λ k i. layout_valid n m s ws (drop (length ws) map) g.layout k i.least (omega (arith, g.all, i.most));
+        links = λ k i. layout_valid n m ws s (drop (length ws) map) g.layout k i.least (omega (arith, g.all, i.most));
       })
 
   pub accepted_fault : map_fault n m (map_after s map) ≡ 0
