@@ -12,7 +12,7 @@ use Rattle.limits.proofs.Cases.{cond_both, cond_cases, cond_else}
 use Rattle.map.specs.Map.{Valid}
 use Rattle.map.specs.declared.Side.{Side}
 use Rattle.map.specs.declared.Side.TheVariants.{Forward, Backward}
-use Rattle.half.specs.Half.{unknown, ceiling, dist, state, settled_at, settled_count, Shaped, unseen, seen, ShapedHalf}
+use Rattle.half.specs.Half.{unknown, ceiling, dist, settled_at, settled_count, Shaped, unseen, seen, ShapedHalf}
 use Rattle.half.specs.declared.Entry.{Entry}
 use Rattle.half.proofs.Rule1.{First, nearest_open_lem, nearest_first}
 use Rattle.half.proofs.Shape.{settled_at_shaped}

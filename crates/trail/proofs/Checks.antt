@@ -11,7 +11,7 @@ use Rattle.map.specs.Map.{cost, Valid}
 use Rattle.map.specs.Walk.{near, far}
 use Rattle.map.specs.declared.Side.{Side}
 use Rattle.map.proofs.Walks.{near_in}
-use Rattle.half.specs.Half.{ceiling, dist, link, state, entry, Shaped, unseen, seen, ShapedHalf}
+use Rattle.half.specs.Half.{ceiling, dist, state, entry, Shaped, unseen, seen, ShapedHalf}
 use Rattle.half.specs.declared.Entry.{Entry}
 use Rattle.shape.specs.Rules.{mark_by, mark}
 use Rattle.trail.specs.Sound.{root_fault, tight_fault, named_fault, sound_at, mark_fault}

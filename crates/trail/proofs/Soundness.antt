@@ -14,7 +14,6 @@ use Rattle.limits.specs.Limits.{Between}
 use Rattle.limits.proofs.Cases.{and_both, cond_then}
 use Rattle.limits.proofs.Fine.{fine_all, all_fine_lem}
 use Rattle.map.specs.Map.{Valid}
-use Rattle.map.specs.Walk.{near}
 use Rattle.map.specs.declared.Side.{Side}
 use Rattle.map.specs.declared.Side.TheVariants.{Forward, Backward}
 use Rattle.map.proofs.Walks.{near_in}

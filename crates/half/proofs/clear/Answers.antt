@@ -1,6 +1,5 @@
 -- `half::clear` meets its contract. The loop's invariant: the words below i are those of a blank half, and the others as at entry. Assumes nothing.
 use mathlib.Core.Path.{sym, ◌∙◌}
-use Prim.Native.Nat.{◌-◌}
 use native.Mathlib.Omega.{arith}
 use lib.ListN.{length-set}
 use Rattle.half.specs.Half.{blank}

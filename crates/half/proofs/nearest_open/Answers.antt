@@ -1,6 +1,6 @@
 -- `half::nearest_open` meets its contract. The loop's invariant: b is the nearest open crossing of 1 to v, or 0. Assumes nothing.
 use mathlib.Core.Path.{◌≡◌, sym, ◌∙◌, ap}
-use Prim.Native.Nat.{◌-◌, ◌+◌}
+use Prim.Native.Nat.{◌+◌}
 use native.Mathlib.Omega.{arith}
 use Rattle.half.specs.Half.{nearer, nearest_open}
 use Rattle.half.proofs.Folds.{up_to_none, up_to_more}

@@ -1,6 +1,6 @@
 -- `half::settle` meets its contract. The loop's invariant: the half is x made settled and then the links up to k. Assumes nothing.
 use mathlib.Core.Path.{◌≡◌, refl, sym, ◌∙◌, ap}
-use Prim.Native.Nat.{◌-◌, ◌+◌}
+use Prim.Native.Nat.{◌+◌}
 use native.Mathlib.Omega.{arith}
 use Rattle.half.specs.Half.{relaxed}
 use Rattle.half.proofs.Folds.{up_to_none, up_to_more}

@@ -1,5 +1,4 @@
 -- `limits::still_fine` meets its contract. Assumes nothing.
-use borrow.Author.Rules.{rules}
 use Rattle.limits.proofs.still_fine.Goals as goal
 
 pub returns-then-fine : goal.returns-then-fine

@@ -1,7 +1,6 @@
 -- `line::agree` meets its contract. The loop's invariant: they agree up to i, and so as far as from i on. Assumes nothing.
 use Rattle.line.proofs.Laws.{agree_out, agree_end, agree_other, agree_more}
 use borrow.Author.Rules.{rules}
-use Prim.Native.Nat.{◌-◌}
 use Rattle.line.proofs.agree.Goals as goal
 
 pub returns-then-line-i : goal.returns-then-line-i

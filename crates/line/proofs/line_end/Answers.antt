@@ -1,6 +1,5 @@
 -- `line::line_end` meets its contract. The loop's invariant: the line that goes on at i ends where the one from the place does. Assumes nothing.
 use mathlib.Core.Path.{sym, ◌∙◌}
-use Prim.Native.Nat.{◌-◌}
 use Rattle.line.proofs.Lines.{end_cut, end_more, end_out}
 use Rattle.line.proofs.line_end.Goals as goal
 

@@ -1,9 +1,7 @@
 -- `map::links_fine` meets its contract. The loop's invariant: fine says that none of the links 1 to k has a fault. Assumes nothing.
 use mathlib.Core.Path.{◌≡◌}
-use Prim.Native.Nat.{◌-◌}
 use native.Mathlib.Omega.{arith}
 use Rattle.limits.proofs.Fine.{fine_start, fine_step}
-use Rattle.map.specs.Map.{link_fault}
 use Rattle.map.proofs.links_fine.Goals as goal
 
 pub loop-k-init : goal.loop-k-init

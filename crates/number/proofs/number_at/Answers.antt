@@ -1,5 +1,4 @@
 -- `number::number_at` meets its contract. The loop's invariant: the number at the place is the one that v grows to from i on. Assumes nothing.
-use Prim.Native.Nat.{◌-◌}
 use borrow.Author.Rules.{rules}
 use Rattle.number.proofs.Laws.{number_none, number_bad, number_begun, grow_stop, grow_zero, grow_big, grow_more, grow_end}
 use Rattle.number.proofs.number_at.Goals as goal

@@ -1,6 +1,5 @@
 -- `rules::mark_all` meets its contract. The loop's invariant: the first i marks are written, and all else is as at entry. Assumes nothing.
 use mathlib.Core.Path.{refl, ◌∙◌}
-use Prim.Native.Nat.{◌-◌}
 use native.Mathlib.Omega.{arith}
 use lib.ListN.{length-set}
 use Rattle.shape.specs.Bench.{parse}

@@ -1,6 +1,5 @@
 -- `shaped::half_fault` meets its contract. The loop's invariant: fine says that none of the crossings 1 to v has a fault. Assumes nothing.
 use mathlib.Core.Path.{◌≡◌, ◌∙◌, ap}
-use Prim.Native.Nat.{◌-◌}
 use native.Mathlib.Omega.{arith}
 use Rattle.limits.proofs.Fine.{fine_start, fine_step}
 use Rattle.shaped.specs.Shape.{entry_fault, half_fault}

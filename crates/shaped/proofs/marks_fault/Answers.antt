@@ -1,6 +1,5 @@
 -- `shaped::marks_fault` meets its contract. The loop's invariant: fine says that none of the marks 1 to v has a fault. Assumes nothing.
 use mathlib.Core.Path.{◌≡◌}
-use Prim.Native.Nat.{◌-◌}
 use native.Mathlib.Omega.{arith}
 use Rattle.limits.proofs.Fine.{fine_start, fine_step}
 use Rattle.shaped.specs.Shape.{marks_fault}

@@ -6,7 +6,7 @@ use Rattle.text.specs.Text.{line_words}
 use Rattle.text.proofs.Laws.{words_link}
 use native.Mathlib.Omega.{arith}
 use Prim.Native.Nat.{suc, ◌+◌}
-use mathlib.Core.Path.{◌≡◌, refl, sym, ap, ◌∙◌}
+use mathlib.Core.Path.{◌≡◌, refl, sym, ap}
 use Rattle.text.proofs.put_line.Goals as goal
 
 pub bounds-map-at : goal.bounds-map-at

@@ -5,7 +5,6 @@ use Rattle.line.specs.Lines.{lines_of}
 use Rattle.text.specs.Text.{read_text}
 use Rattle.line.proofs.Lines.{line_ends}
 use Rattle.text.proofs.Laws.{read_stop, read_go, read_end}
-use Prim.Native.Nat.{◌-◌}
 use mathlib.Core.Path.{sym, ◌∙◌}
 use borrow.Author.Tests.{lt-ltb, le-ltb}
 use borrow.Author.Rules.{rules}

@@ -1,9 +1,8 @@
 -- `trail::marks_fault` meets its contract. The loop's invariant: fine says that none of the crossings 1 to v has a fault. Assumes nothing.
 use mathlib.Core.Path.{◌≡◌}
-use Prim.Native.Nat.{◌-◌}
 use native.Mathlib.Omega.{arith}
 use Rattle.limits.proofs.Fine.{fine_start, fine_step}
-use Rattle.trail.specs.Sound.{mark_fault, marks_fault}
+use Rattle.trail.specs.Sound.{marks_fault}
 use Rattle.trail.proofs.marks_fault.Goals as goal
 
 pub loop-v-init : goal.loop-v-init

@@ -1,9 +1,8 @@
 -- `trail::sound_fault` meets its contract. The loop's invariant: fine says that none of the crossings 1 to v has a fault. Assumes nothing.
 use mathlib.Core.Path.{◌≡◌}
-use Prim.Native.Nat.{◌-◌}
 use native.Mathlib.Omega.{arith}
 use Rattle.limits.proofs.Fine.{fine_start, fine_step}
-use Rattle.trail.specs.Sound.{sound_at, sound_fault}
+use Rattle.trail.specs.Sound.{sound_fault}
 use Rattle.trail.proofs.sound_fault.Goals as goal
 
 pub loop-v-init : goal.loop-v-init
