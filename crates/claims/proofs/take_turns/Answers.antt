@@ -1,5 +1,4 @@
 -- `claims::take_turns` meets its contract. The loop's invariant: the turns of the whole schedule are those of the bytes from i on. Assumes nothing.
-use Prim.Native.Nat.{◌-◌}
 use Rattle.demands.proofs.Calls.{turns_more, turns_end}
 use mathlib.Core.Path.{sym, ◌∙◌}
 use borrow.Author.Rules.{rules}

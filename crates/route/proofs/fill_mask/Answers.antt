@@ -1,10 +1,9 @@
 -- `route::fill_mask` meets its contract. The loop's invariant: writing the rest, from i on, gives the whole. Assumes nothing.
 use mathlib.Core.Path.{refl, sym, ◌∙◌}
-use Prim.Native.Nat.{◌-◌}
 use native.Mathlib.Nat.{sub-zero}
 use native.Mathlib.Omega.{arith}
 use lib.ListN.{length-set}
-use Rattle.route.specs.Area.{mask_at, mask_in}
+use Rattle.route.specs.Area.{mask_in}
 use Rattle.route.proofs.Writing.{fill_step, fill_end}
 use Rattle.route.proofs.fill_mask.Goals as goal
 

@@ -4,7 +4,7 @@ use native.Mathlib.Omega.{arith}
 use lib.ListN.{length}
 use Rattle.half.specs.Half.{dist}
 use Rattle.trail.proofs.Walking.{step_settled, step_nearer, step_trail}
-use Rattle.route.specs.Area.{agrees, local_in}
+use Rattle.route.specs.Area.{local_in}
 use Rattle.route.proofs.Local.{local_far, local_end, local_on, local_fails}
 use Rattle.route.proofs.local_in.Goals as goal
 

@@ -1,7 +1,7 @@
 -- `writing::clear` meets its contract. The loop's invariant: the words below i are 0, and the others as at entry. Assumes nothing.
 use mathlib.Core.Path.{◌≡◌, ◌∙◌, ap}
 use mathlib.Core.List.{List, append-nil}
-use Prim.Native.Nat.{ℕ, ◌≤◌, ◌-◌}
+use Prim.Native.Nat.{ℕ, ◌≤◌}
 use native.Mathlib.Omega.{arith}
 use lib.ListN.{length, set, length-set, drop_of_length-le}
 use borrow.Author.Fill.{fill_more}
