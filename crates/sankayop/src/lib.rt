@@ -1,4 +1,4 @@
-// The C interface: each public call, with its answer in one number. A slice passes as a pointer and then a length.
+// Each public call with its answer in one number, as the C interface gives it: `sankayop_c` exports these calls.
 #![tactic(auto)]
 
 ghost use Rattle.std.specs.Prelude.{◌≡◌, length};
@@ -75,8 +75,7 @@ fn pack_routing(routing: Routing) -> u64
 // ---- the calls
 
 // Reads a text into the map.
-#[unsafe(no_mangle)]
-pub extern "C" fn sankayop_read(text: &[u8], map: &mut [u32]) -> u64
+pub fn sankayop_read(text: &[u8], map: &mut [u32]) -> u64
     ensures answer { result ≡ packed (read_text (length map.old) text.now) }
     ensures map { map.new ≡ map_after text.now map.old }
 {
@@ -84,8 +83,7 @@ pub extern "C" fn sankayop_read(text: &[u8], map: &mut [u32]) -> u64
 }
 
 // Opens the bench for one order.
-#[unsafe(no_mangle)]
-pub extern "C" fn sankayop_open(
+pub fn sankayop_open(
     map: &[u32],
     n: u32,
     m: u32,
@@ -101,8 +99,7 @@ pub extern "C" fn sankayop_open(
 }
 
 // One turn of the forward half.
-#[unsafe(no_mangle)]
-pub extern "C" fn sankayop_forward(map: &[u32], n: u32, m: u32, bench: &mut [u32]) -> u64
+pub fn sankayop_forward(map: &[u32], n: u32, m: u32, bench: &mut [u32]) -> u64
     ensures answer { result ≡ packed (turn_said Forward map.now n m bench.old) }
     ensures bench { bench.new ≡ turn_words Forward map.now n m bench.old }
 {
@@ -110,8 +107,7 @@ pub extern "C" fn sankayop_forward(map: &[u32], n: u32, m: u32, bench: &mut [u32
 }
 
 // One turn of the backward half.
-#[unsafe(no_mangle)]
-pub extern "C" fn sankayop_backward(map: &[u32], n: u32, m: u32, bench: &mut [u32]) -> u64
+pub fn sankayop_backward(map: &[u32], n: u32, m: u32, bench: &mut [u32]) -> u64
     ensures answer { result ≡ packed (turn_said Backward map.now n m bench.old) }
     ensures bench { bench.new ≡ turn_words Backward map.now n m bench.old }
 {
@@ -119,8 +115,7 @@ pub extern "C" fn sankayop_backward(map: &[u32], n: u32, m: u32, bench: &mut [u3
 }
 
 // Fills the first n bytes of the mask: 0 unmarked, 1 in B only, 2 also in BL.
-#[unsafe(no_mangle)]
-pub extern "C" fn sankayop_area(
+pub fn sankayop_area(
     map: &[u32],
     n: u32,
     m: u32,
@@ -135,8 +130,7 @@ pub extern "C" fn sankayop_area(
 }
 
 // Fills the buffer with the route through a marked crossing.
-#[unsafe(no_mangle)]
-pub extern "C" fn sankayop_route(
+pub fn sankayop_route(
     map: &[u32],
     n: u32,
     m: u32,
