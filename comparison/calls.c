@@ -1,7 +1,7 @@
 /*
  * The library as a process, for the comparison to ask: reads one call after another from standard input with all that
- * is lent to it, makes it, and writes the answer and all that was lent back. So the comparison runs on any machine,
- * and the library, which is compiled for x86-64, where the launcher puts it.
+ * is lent to it, makes it, and writes the answer and all that was lent back. So a call that ended the process would
+ * be seen.
  *
  * Every lent slice stands between guards; a call that changes one of them ends the process.
  */

@@ -1,10 +1,10 @@
-//! Links the library, from the folder that SANKAYOP_LIB names, or else from where `./archive` writes it for this machine.
+//! Links the library, from the folder that SANKAYOP_LIB names, or else from where `./archive` writes it.
 
 use std::{env, path::PathBuf};
 
 fn main() {
     println!("cargo::rerun-if-env-changed=SANKAYOP_LIB");
-    let built = || PathBuf::from(env!("CARGO_MANIFEST_DIR")).join("../target/here");
+    let built = || PathBuf::from(env!("CARGO_MANIFEST_DIR")).join("../target/staticlib");
     let folder = env::var_os("SANKAYOP_LIB").map_or_else(built, PathBuf::from);
     let archive = folder.join("libsankayop.a");
     assert!(

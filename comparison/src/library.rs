@@ -1,7 +1,6 @@
 //! The proved library, which calls.c makes a process of its own, and its program `booklet`.
 //!
-//! SANKAYOP_CALLS and SANKAYOP_BOOKLET name the two programs, SANKAYOP_LAUNCHER the words to put before
-//! them on a machine that doesn't run them by itself.
+//! SANKAYOP_CALLS and SANKAYOP_BOOKLET name the two programs.
 
 use crate::comparison::{Outcome, Subject, NO_ANSWER};
 use crate::inputs::{Call, Input};
@@ -20,7 +19,7 @@ pub struct Library {
 impl Library {
     pub fn start() -> Result<Library, String> {
         named("SANKAYOP_BOOKLET")?;
-        let mut process = launched(&named("SANKAYOP_CALLS")?)
+        let mut process = Command::new(named("SANKAYOP_CALLS")?)
             .stdin(Stdio::piped())
             .stdout(Stdio::piped())
             .spawn()
@@ -121,18 +120,9 @@ fn named(variable: &str) -> Result<String, String> {
     env::var(variable).map_err(|_| format!("{variable} names no program"))
 }
 
-/// The program, behind the words of the launcher.
-fn launched(program: &str) -> Command {
-    let launcher = env::var("SANKAYOP_LAUNCHER").unwrap_or_default();
-    let mut words = launcher.split_whitespace().chain([program]);
-    let mut command = Command::new(words.next().unwrap_or(program));
-    command.args(words);
-    command
-}
-
 fn run_booklet(arguments: &[Vec<u8>], text: &[u8]) -> io::Result<Output> {
     let program = named("SANKAYOP_BOOKLET").map_err(io::Error::other)?;
-    let mut child = launched(&program)
+    let mut child = Command::new(program)
         .args(arguments.iter().map(|argument| OsStr::from_bytes(argument)))
         .stdin(Stdio::piped())
         .stdout(Stdio::piped())
