@@ -5,7 +5,9 @@
 
 ghost use Rattle.std.specs.Prelude.{◌≤◌, ◌<◌, length};
 
-use libc::STDIN_FILENO;
+use std::io::Write;
+use std::rt::Files;
+use std::{fs, io};
 use text::Reading;
 
 // The place of the first space, or the end.
@@ -72,23 +74,23 @@ fn grown(text: &mut [u8], n: usize, times: u32) -> usize
 }
 
 // Reads the text into the map, which is printed where it is short.
-fn print_reading(text: &[u8], map: &mut [u32]) {
+fn print_reading<W: Write>(out: &mut W, text: &[u8], map: &mut [u32]) -> io::Result<()> {
     let got = text::read(text, map);
     match got {
         Reading::Read(n, m) => {
-            rows::print(b" read");
-            rows::print_words(&[n, m]);
+            rows::print(out, b" read")?;
+            rows::print_words(out, &[n, m])?;
         }
         Reading::Refused(number, at) => {
-            rows::print(b" refused");
-            rows::print_words(&[number, at]);
+            rows::print(out, b" refused")?;
+            rows::print_words(out, &[number, at])?;
         }
     }
     if map.len() < 25 {
-        rows::print(b" :");
-        rows::print_words(map);
+        rows::print(out, b" :")?;
+        rows::print_words(out, map)?;
     }
-    rows::print(b"\n");
+    rows::print(out, b"\n")
 }
 
 // A cast of its own asks for no fact about the array that the number stands in.
@@ -96,69 +98,84 @@ fn index(x: u32) -> usize {
     x as usize
 }
 
-fn run_row(row: &[u8], text: &mut [u8], map: &mut [u32]) {
+// Reads the file into the text, and answers how many bytes it has: none where it cannot be opened.
+fn read_file<F: Files>(files: &F, name: &[u8], text: &mut [u8]) -> usize
+    ensures { result ≤ length text.new }
+{
+    let Ok(path) = str::from_utf8(name) else {
+        return 0;
+    };
+    let Ok(mut file) = fs::open(files, path) else {
+        return 0;
+    };
+    rows::read_full(&mut file, text)
+}
+
+fn run_row<F: Files, W: Write>(
+    files: &F,
+    out: &mut W,
+    row: &[u8],
+    text: &mut [u8],
+    map: &mut [u32],
+) -> io::Result<()> {
     let name = space_at(row);
     let mut two = [0u32; 2];
     rows::numbers(row, name + 1, &mut two);
     let room = index(two[0]);
     let times = two[1];
-    rows::print(&row[0..name]);
-    let file = os::open_read(&row[0..name]);
+    rows::print(out, &row[0..name])?;
     if map.len() < room {
-        return;
+        return Ok(());
     }
-    let n = io::read_full(file, text);
-    libc::close(file);
-    if n <= text.len() {
-        let end = grown(text, n, times);
-        print_reading(&text[0..end], &mut map[0..room]);
-    }
+    let n = read_file(files, &row[0..name], text);
+    let end = grown(text, n, times);
+    print_reading(out, &text[0..end], &mut map[0..room])
 }
 
 // Each row has a text and a map of its own.
-fn read_row(row: &[u8]) {
+fn read_row<F: Files, W: Write>(files: &F, out: &mut W, row: &[u8]) -> io::Result<()> {
     let mut text = [0u8; 1048600];
     let mut map = [7u32; 49160];
-    run_row(row, &mut text, &mut map);
+    run_row(files, out, row, &mut text, &mut map)
 }
 
-fn fault_row(row: &[u8]) {
+fn fault_row<W: Write>(out: &mut W, row: &[u8]) -> io::Result<()> {
     let mut words = [0u32; 64];
     let k = rows::numbers(row, 0, &mut words);
     if k < 2 {
-        return;
+        return Ok(());
     }
     if 64 < k {
-        return;
+        return Ok(());
     }
     let n = words[0];
     let m = words[1];
-    rows::print_number(map::fault(&words[2..k], n, m));
-    rows::print(b"\n");
+    rows::print_number(out, map::fault(&words[2..k], n, m))?;
+    rows::print(out, b"\n")
 }
 
-fn any_row(row: &[u8]) {
+fn any_row<F: Files, W: Write>(files: &F, out: &mut W, row: &[u8]) -> io::Result<()> {
     if row.len() == 0 {
-        return;
+        return Ok(());
     }
     if row[0] < 58 {
-        fault_row(row);
-        return;
+        return fault_row(out, row);
     }
-    read_row(row);
+    read_row(files, out, row)
 }
 
-fn run_rows(rows: &[u8]) {
+fn run_rows<F: Files, W: Write>(files: &F, out: &mut W, rows: &[u8]) -> io::Result<()> {
     let mut at = 0;
     while at < rows.len() {
         let end = line::line_end(rows, at);
-        any_row(&rows[at..end]);
+        any_row(files, out, &rows[at..end])?;
         at = end;
     }
+    Ok(())
 }
 
-fn main() {
-    let mut rows = io::buffer();
-    let n = io::read_full(STDIN_FILENO, &mut rows);
-    run_rows(&rows[..n]);
+fn main(rt: HostRuntime) -> io::Result<()> {
+    let mut rows = [0u8; 4096];
+    let n = rows::read_full(&mut rt.stdin(), &mut rows);
+    run_rows(&rt, &mut rt.stdout(), &rows[..n])
 }
