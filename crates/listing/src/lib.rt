@@ -8,26 +8,26 @@ ghost use Rattle.half.specs.Half.{dist};
 ghost use Rattle.shape.specs.Bench.{half as half_of, bench_words, parse};
 ghost use Rattle.listing.specs.Letter.{letter_of};
 
-use libc::STDOUT_FILENO;
 use map::Side;
+use std::io;
+use std::io::Write;
 
-fn print_field(x: u64) {
-    io::write_all(STDOUT_FILENO, b" ");
-    io::print_decimal(STDOUT_FILENO, x);
+fn print_field<W: Write>(out: &mut W, x: u64) -> io::Result<()> {
+    write!(out, " {x}")
 }
 
 // A letter and two numbers.
-pub fn print_line(letter: u8, a: u64, b: u64) {
-    io::write_all(STDOUT_FILENO, &[letter]);
-    print_field(a);
-    print_field(b);
-    io::write_all(STDOUT_FILENO, b"\n");
+pub fn print_line<W: Write>(out: &mut W, letter: u8, a: u64, b: u64) -> io::Result<()> {
+    out.write_all(&[letter])?;
+    print_field(out, a)?;
+    print_field(out, b)?;
+    out.write_all(b"\n")
 }
 
-fn print_optimum(optimum: u32) {
-    io::write_all(STDOUT_FILENO, b"o");
-    print_field(optimum as u64);
-    io::write_all(STDOUT_FILENO, b"\n");
+fn print_optimum<W: Write>(out: &mut W, optimum: u32) -> io::Result<()> {
+    out.write_all(b"o")?;
+    print_field(out, optimum as u64)?;
+    out.write_all(b"\n")
 }
 
 // `l` in BL, `b` in B only.
@@ -48,16 +48,17 @@ fn sum_of(bench: &[u32], n: usize, v: usize) -> u64
 }
 
 // The optimum, then each crossing of B, rising.
-pub fn print_area(bench: &[u32], n: usize, mask: &[u8])
+pub fn print_area<W: Write>(out: &mut W, bench: &[u32], n: usize, mask: &[u8]) -> io::Result<()>
     requires { (n ≤ 4096) × (bench_words n ≤ length bench.now) × (n ≤ length mask.now) }
 {
-    print_optimum(bench[5]);
+    print_optimum(out, bench[5])?;
     let mut v: usize = 0;
     while v < n {
         let byte = mask[v];
         v += 1;
         if byte != 0 {
-            print_line(letter_of(byte), v as u64, sum_of(bench, n, v));
+            print_line(out, letter_of(byte), v as u64, sum_of(bench, n, v))?;
         }
     }
+    Ok(())
 }
