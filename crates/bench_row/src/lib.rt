@@ -1,26 +1,37 @@
 // One row about a bench: the call that it asks for, and its answer printed.
-use bench::{Filling, Opening, Routing, Turn};
+#![tactic(auto)]
 
-fn print_refused(number: u32) {
-    rows::print(b" refused");
-    rows::print_number(number);
+use bench::{Filling, Opening, Routing, Turn};
+use std::io;
+use std::io::Write;
+
+fn print_refused<W: Write>(out: &mut W, number: u32) -> io::Result<()> {
+    rows::print(out, b" refused")?;
+    rows::print_number(out, number)
 }
 
-pub fn open_row(map: &[u32], n: u32, m: u32, order: [u32; 3], bench: &mut [u32]) {
+pub fn open_row<W: Write>(
+    out: &mut W,
+    map: &[u32],
+    n: u32,
+    m: u32,
+    order: [u32; 3],
+    bench: &mut [u32],
+) -> io::Result<()> {
     match bench::open_bench(map, n, m, order[0], order[1], order[2], bench) {
-        Opening::Opened => rows::print(b" opened"),
-        Opening::Refused(number) => print_refused(number),
+        Opening::Opened => rows::print(out, b" opened"),
+        Opening::Refused(number) => print_refused(out, number),
     }
 }
 
-pub fn print_turn(turn: Turn) {
+pub fn print_turn<W: Write>(out: &mut W, turn: Turn) -> io::Result<()> {
     match turn {
         Turn::Settled(crossing, distance) => {
-            rows::print(b" settled");
-            rows::print_words(&[crossing, distance]);
+            rows::print(out, b" settled")?;
+            rows::print_words(out, &[crossing, distance])
         }
-        Turn::Done => rows::print(b" done"),
-        Turn::Refused(number) => print_refused(number),
+        Turn::Done => rows::print(out, b" done"),
+        Turn::Refused(number) => print_refused(out, number),
     }
 }
 
@@ -28,52 +39,89 @@ fn word(x: u8) -> u32 {
     x as u32
 }
 
-fn print_bytes(bytes: &[u8]) {
+fn print_bytes<W: Write>(out: &mut W, bytes: &[u8]) -> io::Result<()> {
     let mut i = 0;
     while i < bytes.len() {
-        rows::print_number(word(bytes[i]));
+        rows::print_number(out, word(bytes[i]))?;
         i += 1;
     }
+    Ok(())
 }
 
-fn fill_mask(map: &[u32], n: u32, m: u32, bench: &[u32], locality: u32, mask: &mut [u8]) {
+fn fill_mask<W: Write>(
+    out: &mut W,
+    map: &[u32],
+    n: u32,
+    m: u32,
+    bench: &[u32],
+    locality: u32,
+    mask: &mut [u8],
+) -> io::Result<()> {
     match bench::area(map, n, m, bench, locality, mask) {
-        Filling::Area => rows::print(b" area"),
-        Filling::Refused(number) => print_refused(number),
+        Filling::Area => rows::print(out, b" area")?,
+        Filling::Refused(number) => print_refused(out, number)?,
     }
-    rows::print(b" :");
-    print_bytes(mask);
+    rows::print(out, b" :")?;
+    print_bytes(out, mask)
 }
 
-pub fn area_row(map: &[u32], n: u32, m: u32, bench: &[u32], locality: u32, room: usize) {
+pub fn area_row<W: Write>(
+    out: &mut W,
+    map: &[u32],
+    n: u32,
+    m: u32,
+    bench: &[u32],
+    locality: u32,
+    room: usize,
+) -> io::Result<()> {
     let mut mask = [9u8; 16];
     if 16 < room {
-        return;
+        return Ok(());
     }
-    fill_mask(map, n, m, bench, locality, &mut mask[0..room]);
+    fill_mask(out, map, n, m, bench, locality, &mut mask[0..room])
 }
 
-fn fill_route(map: &[u32], n: u32, m: u32, bench: &[u32], crossing: u32, buffer: &mut [u32]) {
+fn fill_route<W: Write>(
+    out: &mut W,
+    map: &[u32],
+    n: u32,
+    m: u32,
+    bench: &[u32],
+    crossing: u32,
+    buffer: &mut [u32],
+) -> io::Result<()> {
     match bench::fill_route(map, n, m, bench, crossing, buffer) {
         Routing::Length(k) => {
-            rows::print(b" route");
-            rows::print_number(k);
+            rows::print(out, b" route")?;
+            rows::print_number(out, k)?;
         }
-        Routing::Refused(number) => print_refused(number),
+        Routing::Refused(number) => print_refused(out, number)?,
     }
-    rows::print(b" :");
-    rows::print_words(buffer);
+    rows::print(out, b" :")?;
+    rows::print_words(out, buffer)
 }
 
-fn hand_back(map: &[u32], n: u32, m: u32, bench: &[u32], crossing: u32, buffer: &mut [u32]) {
-    rows::print(b" handed");
-    rows::print_number(bench::route_refusal(map, n, m, bench, crossing, buffer));
-    rows::print(b" :");
+fn hand_back<W: Write>(
+    out: &mut W,
+    map: &[u32],
+    n: u32,
+    m: u32,
+    bench: &[u32],
+    crossing: u32,
+    buffer: &mut [u32],
+) -> io::Result<()> {
+    rows::print(out, b" handed")?;
+    rows::print_number(
+        out,
+        bench::route_refusal(map, n, m, bench, crossing, buffer),
+    )?;
+    rows::print(out, b" :")?;
     let part = bench::route(map, n, m, bench, crossing, buffer);
-    rows::print_words(part);
+    rows::print_words(out, part)
 }
 
-pub fn route_row(
+pub fn route_row<W: Write>(
+    out: &mut W,
     map: &[u32],
     n: u32,
     m: u32,
@@ -81,14 +129,13 @@ pub fn route_row(
     crossing: u32,
     room: usize,
     handed: bool,
-) {
+) -> io::Result<()> {
     let mut buffer = [9u32; 16];
     if 16 < room {
-        return;
+        return Ok(());
     }
     if handed {
-        hand_back(map, n, m, bench, crossing, &mut buffer[0..room]);
-        return;
+        return hand_back(out, map, n, m, bench, crossing, &mut buffer[0..room]);
     }
-    fill_route(map, n, m, bench, crossing, &mut buffer[0..room]);
+    fill_route(out, map, n, m, bench, crossing, &mut buffer[0..room])
 }

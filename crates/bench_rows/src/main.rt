@@ -8,7 +8,10 @@
 //   t CROSSING ROOM the route through a crossing, with a buffer of so many words, each of them 9
 //   h CROSSING ROOM the number of the companion call, and the part that is handed back
 // Any other row is a remark.
-use libc::STDIN_FILENO;
+#![tactic(auto)]
+
+use std::io;
+use std::io::Write;
 
 // How many numbers the row of the map had, and how many words the bench has.
 #[derive(Clone, Copy)]
@@ -29,12 +32,12 @@ fn put(bench: &mut [u32], place: usize, word: u32) {
 }
 
 // One row, on the numbers of the map's row and on the bench.
-fn run_row(row: &[u8], order: &[u32], bench: &mut [u32]) {
+fn run_row<W: Write>(out: &mut W, row: &[u8], order: &[u32], bench: &mut [u32]) -> io::Result<()> {
     if row.len() == 0 {
-        return;
+        return Ok(());
     }
     if order.len() < 2 {
-        return;
+        return Ok(());
     }
     let kind = row[0];
     let n = order[0];
@@ -43,28 +46,37 @@ fn run_row(row: &[u8], order: &[u32], bench: &mut [u32]) {
     let mut given = [0u32; 3];
     rows::numbers(row, 2, &mut given);
     match kind {
-        b'o' => bench_row::open_row(map, n, m, given, bench),
-        b'f' => bench_row::print_turn(bench::forward(map, n, m, bench)),
-        b'b' => bench_row::print_turn(bench::backward(map, n, m, bench)),
-        b'p' => put(bench, index(given[0]), given[1]),
-        b'w' => rows::print_words(bench),
-        b'a' => bench_row::area_row(map, n, m, bench, given[0], index(given[1])),
-        b't' => bench_row::route_row(map, n, m, bench, given[0], index(given[1]), false),
-        b'h' => bench_row::route_row(map, n, m, bench, given[0], index(given[1]), true),
-        _ => {}
+        b'o' => bench_row::open_row(out, map, n, m, given, bench),
+        b'f' => bench_row::print_turn(out, bench::forward(map, n, m, bench)),
+        b'b' => bench_row::print_turn(out, bench::backward(map, n, m, bench)),
+        b'p' => {
+            put(bench, index(given[0]), given[1]);
+            Ok(())
+        }
+        b'w' => rows::print_words(out, bench),
+        b'a' => bench_row::area_row(out, map, n, m, bench, given[0], index(given[1])),
+        b't' => bench_row::route_row(out, map, n, m, bench, given[0], index(given[1]), false),
+        b'h' => bench_row::route_row(out, map, n, m, bench, given[0], index(given[1]), true),
+        _ => Ok(()),
     }
 }
 
-fn run_on(row: &[u8], setting: Setting, numbers: &[u32], words: &mut [u32]) {
+fn run_on<W: Write>(
+    out: &mut W,
+    row: &[u8],
+    setting: Setting,
+    numbers: &[u32],
+    words: &mut [u32],
+) -> io::Result<()> {
     let k = setting.numbers;
     let room = setting.room;
     if numbers.len() < k {
-        return;
+        return Ok(());
     }
     if words.len() < room {
-        return;
+        return Ok(());
     }
-    run_row(row, &numbers[0..k], &mut words[0..room]);
+    run_row(out, row, &numbers[0..k], &mut words[0..room])
 }
 
 fn fill(words: &mut [u32]) {
@@ -76,36 +88,42 @@ fn fill(words: &mut [u32]) {
 }
 
 // A row that sets the map or the bench, or one that runs on them.
-fn any_row(row: &[u8], setting: Setting, numbers: &mut [u32], words: &mut [u32]) -> Setting {
+fn any_row<W: Write>(
+    out: &mut W,
+    row: &[u8],
+    setting: Setting,
+    numbers: &mut [u32],
+    words: &mut [u32],
+) -> io::Result<Setting> {
     if row.len() == 0 {
-        return setting;
+        return Ok(setting);
     }
-    rows::print(&row[0..row.len() - 1]);
+    rows::print(out, &row[0..row.len() - 1])?;
     let kind = row[0];
     if kind == b'm' {
         let k = rows::numbers(row, 2, numbers);
-        rows::print(b"\n");
-        return Setting {
+        rows::print(out, b"\n")?;
+        return Ok(Setting {
             numbers: k,
             room: setting.room,
-        };
+        });
     }
     if kind == b'r' {
         let mut given = [0u32; 1];
         rows::numbers(row, 2, &mut given);
         fill(words);
-        rows::print(b"\n");
-        return Setting {
+        rows::print(out, b"\n")?;
+        return Ok(Setting {
             numbers: setting.numbers,
             room: index(given[0]),
-        };
+        });
     }
-    run_on(row, setting, numbers, words);
-    rows::print(b"\n");
-    setting
+    run_on(out, row, setting, numbers, words)?;
+    rows::print(out, b"\n")?;
+    Ok(setting)
 }
 
-fn run_rows(rows: &[u8]) {
+fn run_rows<W: Write>(out: &mut W, rows: &[u8]) -> io::Result<()> {
     let mut numbers = [0u32; 64];
     let mut words = [0u32; 64];
     let mut setting = Setting {
@@ -115,13 +133,14 @@ fn run_rows(rows: &[u8]) {
     let mut at = 0;
     while at < rows.len() {
         let end = line::line_end(rows, at);
-        setting = any_row(&rows[at..end], setting, &mut numbers, &mut words);
+        setting = any_row(out, &rows[at..end], setting, &mut numbers, &mut words)?;
         at = end;
     }
+    Ok(())
 }
 
-fn main() {
-    let mut rows = io::large_buffer();
-    let n = io::read_full(STDIN_FILENO, &mut rows);
-    run_rows(&rows[..n]);
+fn main(rt: HostRuntime) -> io::Result<()> {
+    let mut rows = [0u8; 65536];
+    let n = rows::read_full(&mut rt.stdin(), &mut rows);
+    run_rows(&mut rt.stdout(), &rows[..n])
 }
