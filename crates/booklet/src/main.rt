@@ -2,7 +2,7 @@
 // first refusal alone.
 #![tactic(auto)]
 
-ghost use Rattle.std.specs.Prelude.{◌≡◌};
+ghost use Rattle.std.specs.Prelude.{◌≡◌, ◌≤◌, length};
 ghost use Rattle.text.specs.Text.{map_after};
 ghost use Rattle.map.specs.Walk.{other as other_of};
 ghost use Rattle.bench.specs.Calls.{said_turn, turn_fault, turn_said, turn_words};
@@ -10,9 +10,12 @@ ghost use Rattle.booklet.specs.Argument.{argument_of};
 ghost use Rattle.booklet.specs.Survey.{opening_number, turn_number, filling_number, alternated, finished_words, area_number, finished_mask, area_told, said, survey_said, survey_bench, survey_mask, Holds};
 
 use bench::{Filling, Opening, Turn};
-use libc::STDIN_FILENO;
 use map::Side;
 use number::Number;
+use std::env::FillError;
+use std::io;
+use std::io::{Read, Write};
+use std::rt::Env;
 use text::Reading;
 
 // The bytes of a text, the words of a map and the crossings of a bench that there is room for.
@@ -64,28 +67,36 @@ fn value_of(word: &[u8]) -> Argument
     }
 }
 
-// Argument i. One that has no room here is longer than any number; it comes as an empty one, which is no number either.
-fn argument_at(i: usize) -> Argument {
+// Argument i. One that is not there is no number, nor is one that has no room here, as it is longer than any number.
+fn argument_at<E: Env>(env: &E, i: usize) -> Argument {
     let mut word = [0u8; 16];
-    let k = os::arg(i, &mut word);
+    let Ok(k) = env.arg(i, &mut word) else {
+        return Argument::Bad;
+    };
     value_of(&word[..k])
 }
 
+// Whether there is an argument i.
+fn is_given<E: Env>(env: &E, i: usize) -> bool {
+    let mut word = [0u8; 16];
+    !matches!(env.arg(i, &mut word), Err(FillError::NotPresent))
+}
+
 // The order, of exactly four arguments behind the program's name.
-fn read_arguments() -> Arguments {
-    if os::arg_count() != 5 {
+fn read_arguments<E: Env>(env: &E) -> Arguments {
+    if is_given(env, 5) {
         return Arguments::Wrong;
     }
-    let Argument::Value(start) = argument_at(1) else {
+    let Argument::Value(start) = argument_at(env, 1) else {
         return Arguments::Wrong;
     };
-    let Argument::Value(target) = argument_at(2) else {
+    let Argument::Value(target) = argument_at(env, 2) else {
         return Arguments::Wrong;
     };
-    let Argument::Value(stretch) = argument_at(3) else {
+    let Argument::Value(stretch) = argument_at(env, 3) else {
         return Arguments::Wrong;
     };
-    let Argument::Value(locality) = argument_at(4) else {
+    let Argument::Value(locality) = argument_at(env, 4) else {
         return Arguments::Wrong;
     };
     Arguments::Given(Order {
@@ -105,11 +116,10 @@ enum Outcome {
     Refused(u32, u32),
 }
 
-// Prints a refusal, the only line that is printed then. Outside the text its line is 0.
+// A refusal. Outside the text its line is 0.
 fn refuse(number: u32, line: u32) -> Outcome
     ensures { result ≡ Outcome.Refused number line }
 {
-    listing::print_line(b'r', number as u64, line as u64);
     Outcome::Refused(number, line)
 }
 
@@ -233,43 +243,76 @@ fn survey(order: Order, text: &[u8], map: &mut [u32], bench: &mut [u32], mask: &
     }
 }
 
-fn report(order: Order, text: &[u8], map: &mut [u32], bench: &mut [u32], mask: &mut [u8]) {
+// Prints a refusal, the only line that is printed then.
+fn print_refusal<W: Write>(out: &mut W, number: u32, line: u32) -> io::Result<()> {
+    listing::print_line(out, b'r', number as u64, line as u64)
+}
+
+fn report<W: Write>(
+    out: &mut W,
+    order: Order,
+    text: &[u8],
+    map: &mut [u32],
+    bench: &mut [u32],
+    mask: &mut [u8],
+) -> io::Result<()> {
     let outcome = survey(order, text, map, bench, mask);
-    let Outcome::Area(n) = outcome else {
-        return;
-    };
-    listing::print_area(bench, n as usize, mask);
+    match outcome {
+        Outcome::Refused(number, line) => print_refusal(out, number, line),
+        Outcome::Area(n) => listing::print_area(out, bench, n as usize, mask),
+    }
 }
 
 // ---- the program
 
-fn run(order: Order, text: &[u8]) {
+fn run<W: Write>(out: &mut W, order: Order, text: &[u8]) -> io::Result<()> {
     let mut map = [0u32; MAP];
     let mut bench = [0u32; BENCH];
     let mut mask = [0u8; CROSSINGS];
-    report(order, text, &mut map, &mut bench, &mut mask);
+    report(out, order, text, &mut map, &mut bench, &mut mask)
 }
 
-// Whether standard input goes on behind a full text.
-fn goes_on() -> bool {
+// Reads until the buffer is full, the input ends or a read fails, and answers how many bytes it put at the start.
+fn read_full<R: Read>(input: &mut R, buffer: &mut [u8]) -> usize
+    ensures { result ≤ length buffer.new }
+{
+    let mut done = 0;
+    while done < buffer.len() {
+        let Ok(n) = input.read(&mut buffer[done..]) else {
+            break;
+        };
+        if n == 0 {
+            break;
+        }
+        done += n;
+    }
+    done
+}
+
+// Whether the input goes on behind a full text.
+fn goes_on<R: Read>(input: &mut R) -> bool {
     let mut one = [0u8; 1];
-    let k = io::read_full(STDIN_FILENO, &mut one);
+    let k = read_full(input, &mut one);
     k != 0
 }
 
-fn main() {
-    let given = read_arguments();
+// The program over its arguments, its input and its output.
+fn answer<E: Env, R: Read, W: Write>(env: &E, input: &mut R, out: &mut W) -> io::Result<()> {
+    let given = read_arguments(env);
     let Arguments::Given(order) = given else {
-        refuse(1, 0);
-        return;
+        return print_refusal(out, 1, 0);
     };
     let mut text = [0u8; TEXT];
-    let k = io::read_full(STDIN_FILENO, &mut text);
+    let k = read_full(input, &mut text);
     if k == TEXT {
-        if goes_on() {
-            refuse(2, 0);
-            return;
+        if goes_on(input) {
+            return print_refusal(out, 2, 0);
         }
     }
-    run(order, &text[..k]);
+    run(out, order, &text[..k])
+}
+
+// What cannot be written is lost: the program has no exit status of its own.
+fn main(rt: HostRuntime) {
+    let _ = answer(&rt, &mut rt.stdin(), &mut rt.stdout());
 }
