@@ -56,6 +56,7 @@ pub fn beyond(stretch: u32, optimum: u32, d: u32) -> bool
 }
 
 // Rule 3: the optimum after x is settled at distance d, where the other half's root is the goal.
+#[tactic(auto, unfolding(crate::specs::Rules::found, crate::specs::Rules::known))]
 pub fn found(goal: u32, x: u32, d: u32, optimum: u32) -> u32
     ensures { result ≡ found_of goal x d optimum }
 {

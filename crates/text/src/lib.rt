@@ -62,8 +62,8 @@ fn scan(text: &[u8], room: usize) -> Reading
 // Writes the three words of a link at a place of the map, and answers the place after them; another line has none.
 fn put_line(bytes: &[u8], map: &mut [u32], at: usize) -> usize
     requires { at + length (line_words (line_of bytes.now)) ≤ length map.old }
-    ensures value { result ≡ at + length (line_words (line_of bytes.now)) }
-    ensures map_after { map.new ≡ sets map.old at (line_words (line_of bytes.now)) }
+    ensures place { result ≡ at + length (line_words (line_of bytes.now)) }
+    ensures map { map.new ≡ sets map.old at (line_words (line_of bytes.now)) }
 {
     let what = line::read_line(bytes);
     match what {
@@ -171,8 +171,8 @@ pub fn read_on<'a, 'b>(reader: Reader<'a>, map: &'b mut [u32]) -> Reading
 
 // Reads a text into the map. A refusal leaves the map as it was.
 pub fn read(text: &[u8], map: &mut [u32]) -> Reading
-    ensures result_value { said result ≡ read_text (length map.old) text.now }
-    ensures map_after { map.new ≡ map_after text.now map.old }
+    ensures answer { said result ≡ read_text (length map.old) text.now }
+    ensures map { map.new ≡ map_after text.now map.old }
 {
     read_on(begin(text), map)
 }

@@ -8,7 +8,7 @@ pub returns-in-Refused : goal.returns-in-Refused
 returns-in-Refused c =
     let s = c.args in
     let t = c.read in
-    let found = reading_refused s.text.now s.map.now s.order s.bench.now s.mask.now t.ensures.map_after c.refuse.result (ap said (sym c.in-Refused.is) ∙ t.ensures.result_value) c.refuse.ensures in
+    let found = reading_refused s.text.now s.map.now s.order s.bench.now s.mask.now t.ensures.map c.refuse.result (ap said (sym c.in-Refused.is) ∙ t.ensures.answer) c.refuse.ensures in
     record { answer = found.0; map = found.1.0; bench = found.1.1.0; mask = found.1.1.1.0; room = found.1.1.1.1 }
 
 pub returns-in-Read : goal.returns-in-Read
@@ -16,5 +16,5 @@ returns-in-Read c =
     let s = c.args in
     let t = c.read in
     let f = c.find_area.ensures in
-    let found = reading_goes s.text.now s.map.now s.order s.bench.now s.mask.now t.ensures.map_after c.find_area.result (ap said (sym c.in-Read.is) ∙ t.ensures.result_value) (f.answer, (f.bench, (f.mask, f.room))) in
+    let found = reading_goes s.text.now s.map.now s.order s.bench.now s.mask.now t.ensures.map c.find_area.result (ap said (sym c.in-Read.is) ∙ t.ensures.answer) (f.answer, (f.bench, (f.mask, f.room))) in
     record { answer = found.0; map = found.1.0; bench = found.1.1.0; mask = found.1.1.1.0; room = found.1.1.1.1 }

@@ -32,10 +32,10 @@ loop-at-preserved c =
     let l = c.loop-at in
     let words = c.put_line-to.ensures in
     let s = c.args.text.now in
-    let kept = ap length words.map_after ∙ length-sets l.map l.to (line_words (line_of (take (c.line_end-end.result - l.at) (drop l.at s)))) in (
+    let kept = ap length words.map ∙ length-sets l.map l.to (line_words (line_of (take (c.line_end-end.result - l.at) (drop l.at s)))) in (
       e.within,
       kept ∙ l.invariant.1,
-      omega (arith, l.invariant.2, fill_room l.map l.to _ (lines_of (drop c.line_end-end.result _)) _ e.first, words.value, kept),
+      omega (arith, l.invariant.2, fill_room l.map l.to _ (lines_of (drop c.line_end-end.result _)) _ e.first, words.place, kept),
       l.invariant.3 ∙ fill_more l.map l.to _ (lines_of (drop c.line_end-end.result _)) _ e.first ∙ cc,
     )
 

@@ -26,20 +26,20 @@ returns-in-Link c =
     let at = c.args.at in
     let e : at + 2 ≡ suc (suc at) = omega arith in
     let words = words_link (line_of c.args.bytes.now) (sym c.in-Link.ensures) in
-    record { value = omega (arith, ap length words); map_after = rw (words, add-one at, e) }
+    record { place = omega (arith, ap length words); map = rw (words, add-one at, e) }
 
 pub returns-in-Comment : goal.returns-in-Comment
 unfolding line_words
-returns-in-Comment c = rw (← c.in-Comment.ensures) (record { value = omega arith; map_after = refl })
+returns-in-Comment c = rw (← c.in-Comment.ensures) (record { place = omega arith; map = refl })
 
 pub returns-in-Size : goal.returns-in-Size
 unfolding line_words
-returns-in-Size c = rw (← c.in-Size.ensures) (record { value = omega arith; map_after = refl })
+returns-in-Size c = rw (← c.in-Size.ensures) (record { place = omega arith; map = refl })
 
 pub returns-in-Strange : goal.returns-in-Strange
 unfolding line_words
-returns-in-Strange c = rw (← c.in-Strange.ensures) (record { value = omega arith; map_after = refl })
+returns-in-Strange c = rw (← c.in-Strange.ensures) (record { place = omega arith; map = refl })
 
 pub returns-in-Wrong : goal.returns-in-Wrong
 unfolding line_words
-returns-in-Wrong c = rw (← c.in-Wrong.ensures) (record { value = omega arith; map_after = refl })
+returns-in-Wrong c = rw (← c.in-Wrong.ensures) (record { place = omega arith; map = refl })
