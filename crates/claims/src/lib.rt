@@ -8,6 +8,7 @@ ghost use Rattle.demands.specs.Calls.{side_of, turns_words, mixture_words};
 use bench::Opening;
 
 // A turn of the forward half for the byte 0, else of the backward half.
+#[tactic(auto, using(demands::proofs::Calls::side_forward, demands::proofs::Calls::side_backward))]
 fn take_turn(map: &[u32], n: u32, m: u32, bench: &mut [u32], byte: u8)
     ensures { bench.new ≡ turn_words (side_of byte) map.now n m bench.old }
 {

@@ -133,6 +133,7 @@ pub fn far(map: &[u32], side: Side, k: usize) -> u32
 }
 
 // What an unsettled crossing holds after link number k offers it a sum up to the ceiling.
+#[tactic(auto, unfolding(crate::specs::Half::offered))]
 fn taken(e: Entry, k: u32, sum: u32) -> Entry
     requires { (e.state ≡ 2 → ⊥) × (sum ≤ ceiling) }
     ensures { result ≡ offered k sum e }
@@ -164,6 +165,7 @@ fn taken(e: Entry, k: u32, sum: u32) -> Entry
 }
 
 // What a crossing holds after link number k of this cost offers it a way from distance d.
+#[tactic(auto, unfolding(crate::specs::Half::offered))]
 fn offer(e: Entry, k: u32, d: u32, cost: u32) -> Entry
     ensures { result ≡ offered k (d + cost) e }
 {

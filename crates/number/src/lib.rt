@@ -24,6 +24,7 @@ fn digit(b: u8) -> u64
     (b - 48) as u64
 }
 
+#[tactic(auto, using(crate::proofs::Laws::grow_zero, crate::proofs::Laws::grow_big))]
 pub fn number_at(text: &[u8], at: usize) -> Number
     ensures { result ≡ number_at text.now at }
 {

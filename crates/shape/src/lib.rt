@@ -70,6 +70,7 @@ pub fn found(goal: u32, x: u32, d: u32, optimum: u32) -> u32
 }
 
 // Rule 4 from the states s and t and the distances a and b of a crossing in the two halves.
+#[tactic(auto, unfolding(crate::specs::Rules::known))]
 pub fn mark_of(stretch: u32, optimum: u32, s: u32, t: u32, a: u32, b: u32) -> u32
     ensures { result ≡ mark_by stretch optimum s t a b }
 {

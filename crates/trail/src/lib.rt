@@ -29,6 +29,7 @@ fn root_fault(e: Entry) -> u32
 }
 
 // Link k comes to v, settled at distance d, from a settled crossing, whose distance and the cost are d.
+#[tactic(auto, using(crate::proofs::Checks::tight_off, crate::proofs::Checks::tight_open))]
 fn tight_fault(
     map: &[u32],
     half: &[u32],
