@@ -1,6 +1,6 @@
 -- One half of a bench as its 3n words: n distances, n link numbers, n states, crossing v at index v - 1 of each.
 -- Opening, rules 1 and 2 of a turn, and the shape of a half. Assumes nothing.
-use Rattle.std.specs.Prelude.{◌≡◌, cond, ◌&&◌, ◌||◌, List, ◌++◌, ℕ, ◌+◌, ◌*◌, ◌-◌, ◌≤◌, eqb, ltb, length, get_or, set, replicate}
+use Rattle.std.specs.Prelude.{◌≡◌, cond, ◌&&◌, ◌||◌, List, ◌++◌, ℕ, ◌+◌, ◌*◌, ◌-◌, ◌≤◌, eqb, ltb, length, get_or, set, replicate, Option, Some, None}
 use Rattle.limits.specs.Limits.{Between}
 use Rattle.map.specs.Map.{cost}
 use Rattle.map.specs.Walk.{near, far}
@@ -46,6 +46,11 @@ open_half n root = put n (blank n) root (record { dist = 0; link = 0; state = 1 
 pub record Before (d u e v : ℕ) : Type 0 where
   pub le : d ≤ e
   pub tie : d ≡ e → u ≤ v
+
+-- a crossing, or 0 where there is none
+abbrev pub or_zero : Option ℕ → ℕ
+or_zero (Some v) = v
+or_zero None = 0
 
 -- ---- rule 1: the open crossing of least distance, the lower number on a tie; 0 where none is open
 

@@ -1,13 +1,13 @@
 // One half of a bench: n distances, n link numbers and n states, in a part lent on to be written.
 #![tactic(auto)]
 
-ghost use Rattle.std.specs.Prelude.{◌≡◌, ◌*◌, ◌+◌, ◌≤◌, ◌<◌, length, get_or};
+ghost use Rattle.std.specs.Prelude.{◌≡◌, ◌*◌, ◌+◌, ◌≤◌, ◌<◌, length, get_or, IfSome};
 ghost use Rattle.limits.specs.Limits.{Between};
 ghost use Rattle.map.specs.Map.{Valid};
 ghost use Rattle.map.specs.Walk.{near as near_of, far as far_of};
-ghost use Rattle.half.specs.Half.{ceiling, entry as entry_of, put, blank, open_half, nearer as nearer_of, nearest_open, offered, relaxed, settled_at};
+ghost use Rattle.half.specs.Half.{or_zero, ceiling, entry as entry_of, put, blank, open_half, nearer as nearer_of, nearest_open, offered, relaxed, settled_at};
 
-use map::Side;
+use map::{Roads, Side};
 
 // No distance goes above it.
 const CEILING: u64 = 268365825;
@@ -23,7 +23,38 @@ pub struct Entry {
     pub state: u32,
 }
 
-pub fn load(half: &[u32], n: usize, v: usize) -> Entry
+// One half as it is lent to be read.
+#[derive(Clone, Copy)]
+pub struct Half<'a> {
+    pub words: &'a [u32],
+    pub n: usize,
+    ghost room: { length words.now ≡ 3 * n },
+}
+
+impl<'a> Half<'a> {
+    // What it holds of crossing v.
+    pub fn entry(&self, v: usize) -> Entry
+        requires { Between 1 self.now.n v }
+        ensures { result ≡ entry_of self.now.n self.now.words.now v }
+    {
+        load(self.words, self.n, v)
+    }
+
+    // Rule 1: the open crossing of least distance, the lower number on a tie.
+    #[tactic(auto, using(crate::proofs::Rule1::found_in))]
+    pub fn nearest_open(&self) -> Option<usize>
+        ensures crossing { or_zero result ≡ nearest_open self.now.n self.now.words.now }
+        ensures found { IfSome result (λ v. Between 1 self.now.n v) }
+    {
+        let v = nearest_open(self.words, self.n);
+        if v == 0 {
+            return None;
+        }
+        Some(v)
+    }
+}
+
+fn load(half: &[u32], n: usize, v: usize) -> Entry
     requires { Between 1 n v × (length half.now ≡ 3 * n) }
     ensures { result ≡ entry_of n half.now v }
 {
@@ -97,7 +128,7 @@ fn nearer(half: &[u32], n: usize, v: usize, b: usize) -> usize
 }
 
 // Rule 1: the open crossing of least distance, the lower number on a tie; 0 where none is open.
-pub fn nearest_open(half: &[u32], n: usize) -> usize
+fn nearest_open(half: &[u32], n: usize) -> usize
     requires { length half.now ≡ 3 * n }
     ensures { result ≡ nearest_open n half.now }
 {
@@ -201,7 +232,15 @@ fn relax(half: &mut [u32], map: &[u32], n: usize, side: Side, x: usize, d: u32, 
 }
 
 // Rule 2: x is made settled, then each link leaving it, in number order.
-pub fn settle(half: &mut [u32], map: &[u32], n: usize, m: usize, side: Side, x: usize)
+pub fn settle(half: &mut [u32], roads: &Roads, side: Side, x: usize)
+    requires { Between 1 roads.now.n x × (length half.old ≡ 3 * roads.now.n) }
+    ensures { half.new ≡ settled_at side roads.now.map.now roads.now.n roads.now.m x half.old }
+{
+    settle_links(half, roads.map, roads.n as usize, roads.m as usize, side, x);
+}
+
+// x is made settled, then each link leaving it, in number order.
+fn settle_links(half: &mut [u32], map: &[u32], n: usize, m: usize, side: Side, x: usize)
     requires { Valid n m map.now × Between 1 n x × (length half.old ≡ 3 * n) }
     ensures { half.new ≡ settled_at side map.now n m x half.old }
 {

@@ -1,9 +1,8 @@
 -- Whether all is fine: the steps of a loop that asks, what it says of each place, and of the first fault. Assumes nothing.
-use mathlib.Core.Path.{◌≡◌, refl, ◌∙◌}
+use mathlib.Core.Path.{◌≡◌, refl}
 use mathlib.Core.Bool.{Bool, true, ◌&&◌, and-eq-true_iff}
-use Prim.Native.Nat.{ℕ, zero, suc, ◌+◌}
+use Prim.Native.Nat.{ℕ, zero, suc, ◌-◌, ◌≤◌}
 use native.Mathlib.Omega.{arith}
-use native.Mathlib.Numerals.{add-one}
 use native.Mathlib.Decide.{ℕ_discrete}
 use lib.Dec.{eqb}
 use borrow.Author.Tests.{eqb-true, eq-eqb}
@@ -16,9 +15,10 @@ module _ (f : ℕ → ℕ) where
   unfolding all_fine
   fine_start = refl
 
-  pub fine_step : (k : ℕ) {s t : Bool} {a : ℕ} → s ≡ all_fine f k → a ≡ f (k + 1) → t ≡ (s && eqb a 0) → t ≡ all_fine f (k + 1)
+  pub fine_next : (v : ℕ) {s r : Bool} → 1 ≤ v → s ≡ all_fine f (v - 1) → r ≡ eqb (f v) 0 → (s && r) ≡ all_fine f v
   unfolding all_fine
-  fine_step k p q e = e ∙ rw (p, q, add-one)
+  fine_next zero h p q = elim h [ ]
+  fine_next (suc k) h p q = let e : suc k - 1 ≡ k = omega arith in rw (p, q, e)
 
   pub fine_all : (k : ℕ) → all_fine f k ≡ true → (v : ℕ) → Between 1 k v → f v ≡ 0
   unfolding all_fine

@@ -6,7 +6,7 @@ use native.Mathlib.Omega.{arith}
 use native.Mathlib.Numerals.{add-one}
 use native.Mathlib.Decide.{ℕ_discrete}
 use lib.Dec.{eqb, ltb}
-use borrow.Author.Tests.{eq-eqb, ne_eqb, eqb-true, eqb-false, ltb-false, le-ltb}
+use borrow.Author.Tests.{eq-eqb, ne_eqb, eqb-true, eqb-false, ltb-false, le-ltb, lt-ltb}
 use Rattle.limits.specs.First.{or_else, first_from}
 use Rattle.limits.specs.Limits.{Between, number_outside, room_fault}
 use Rattle.limits.proofs.Cases.{cond_both, cond_cases, cond_else}
@@ -122,3 +122,30 @@ room_none needed lent h = ltb-false _ _ (cond_else (ltb lent needed) h (λ z. om
 pub none_room : (needed lent : ℕ) → needed ≤ lent → room_fault needed lent ≡ 0
 unfolding room_fault
 none_room needed lent h = rw (le-ltb lent needed h)
+
+-- ---- the three ways that a number lies, and the two that room does
+
+module _ (low high number x : ℕ) where
+  pub below_outside : x < low → number ≡ number_outside low high number x
+  unfolding number_outside
+  below_outside h = simp (lt-ltb _ _ h)
+
+  pub above_outside : low ≤ x → high < x → number ≡ number_outside low high number x
+  unfolding number_outside
+  above_outside h g = simp (le-ltb _ _ h, lt-ltb _ _ g)
+
+  pub inside_outside : low ≤ x → x ≤ high → 0 ≡ number_outside low high number x
+  unfolding number_outside
+  inside_outside h g = simp (le-ltb _ _ h, le-ltb _ _ g)
+
+module _ (needed lent : ℕ) where
+  pub short_room : lent < needed → 3 ≡ room_fault needed lent
+  unfolding room_fault
+  short_room h = simp (lt-ltb _ _ h)
+
+  pub long_room : needed ≤ lent → 0 ≡ room_fault needed lent
+  unfolding room_fault
+  long_room h = simp (le-ltb _ _ h)
+
+  pub room_for : 0 ≡ room_fault needed lent → needed ≤ lent
+  room_for e = room_none needed lent (sym e)

@@ -1,3 +1,4 @@
+pub mod Refusals
 pub mod First
 pub mod Limits
 pub mod Said

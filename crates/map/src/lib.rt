@@ -1,82 +1,75 @@
 // The road map as it is lent: tail, head and cost of each link in turn.
 #![tactic(auto)]
 
-ghost use Rattle.std.specs.Prelude.{◌≡◌, ◌*◌, ◌≤◌, length};
-ghost use Rattle.limits.specs.First.{first_from, all_fine};
-ghost use Rattle.map.specs.Map.{link_fault, map_fault};
+ghost use Rattle.std.specs.Prelude.{◌≡◌, ◌*◌, ◌≤◌, length, IfOk};
+ghost use Rattle.limits.specs.First.{first_from};
+ghost use Rattle.limits.specs.Refusals.{fault_of};
+ghost use Rattle.map.specs.Map.{Valid, link_fault, map_fault};
+
+use limits::Refusal;
 
 // Which way links are driven: from tail to head, or from head to tail.
-#[derive(Clone, Copy)]
+#[derive(Clone, Copy, Debug, PartialEq, Eq)]
 pub enum Side {
     Forward,
     Backward,
 }
 
-// The number of refusal of link k.
-fn link_fault(map: &[u32], n: u32, k: usize) -> u32
+// The ends of link k, then its cost.
+#[tactic(auto, using(limits::proofs::Refused::refused_first, limits::proofs::Refused::passed_first), unfolding(crate::specs::Map::link_fault, crate::specs::Map::ends_fault, crate::specs::Map::tail, crate::specs::Map::head, crate::specs::Map::cost))]
+fn check_link(map: &[u32], n: u32, k: usize) -> Result<(), Refusal>
     requires { (1 ≤ k) × (3 * k ≤ length map.now) }
-    ensures { result ≡ link_fault n map.now k }
+    ensures { fault_of result ≡ link_fault n map.now k }
 {
     let end = 3 * k;
-    let tail = limits::crossing_fault(n, map[end - 3]);
-    let head = limits::crossing_fault(n, map[end - 2]);
-    let cost = limits::cost_fault(map[end - 1]);
-    limits::or_else(limits::or_else(tail, head), cost)
+    limits::check_crossing(n, map[end - 3])?;
+    limits::check_crossing(n, map[end - 2])?;
+    limits::check_cost(map[end - 1])
 }
 
-// Whether links 1 to m are all without fault.
-fn links_fine(map: &[u32], n: u32, m: usize) -> bool
+// Links 1 to m, link by link, where first it is asked whether there is any fault: the compiler takes several links at a time for that.
+fn check_links(map: &[u32], n: u32, m: usize) -> Result<(), Refusal>
     requires { 3 * m ≤ length map.now }
-    ensures { result ≡ all_fine (link_fault n map.now) m }
+    ensures { fault_of result ≡ first_from (link_fault n map.now) 1 m }
 {
-    let mut fine = true;
-    let mut k: usize = 0;
-    while k < m {
-        k += 1;
-        fine = limits::still_fine(fine, link_fault(map, n, k));
+    if limits::all_pass(m, |k| check_link(map, n, k)) {
+        return Ok(());
     }
-    fine
+    for k in 1..=m {
+        check_link(map, n, k)?;
+    }
+    Ok(())
 }
 
-// The first number of refusal of links 1 to m, link by link.
-fn first_fault(map: &[u32], n: u32, m: usize) -> u32
-    requires { 3 * m ≤ length map.now }
-    ensures { result ≡ first_from (link_fault n map.now) 1 m }
+#[tactic(auto, using(limits::proofs::Refused::refused_first, limits::proofs::Refused::passed_first, limits::proofs::Laws::room_for), unfolding(crate::specs::Map::map_fault, crate::specs::Map::counts_fault))]
+// A lent map of n crossings and m links.
+pub fn check(map: &[u32], n: u32, m: u32) -> Result<(), Refusal>
+    ensures { fault_of result ≡ map_fault n m map.now }
 {
-    let mut k: usize = 1;
-    while k <= m {
-        let fault = link_fault(map, n, k);
-        if fault != 0 {
-            return fault;
-        }
-        k += 1;
-    }
-    0
-}
-
-// The first number of refusal of links 1 to m, had by asking first whether there is any: the compiler takes several links at a time for that.
-fn links_fault(map: &[u32], n: u32, m: usize) -> u32
-    requires { 3 * m ≤ length map.now }
-    ensures { result ≡ first_from (link_fault n map.now) 1 m }
-{
-    if links_fine(map, n, m) {
-        return 0;
-    }
-    first_fault(map, n, m)
-}
-
-// The number of refusal of a lent map of n crossings and m links, or 0.
-pub fn fault(map: &[u32], n: u32, m: u32) -> u32
-    ensures { result ≡ map_fault n m map.now }
-{
-    let counts = limits::or_else(limits::n_fault(n), limits::m_fault(m));
-    if counts != 0 {
-        return counts;
-    }
+    limits::check_n(n)?;
+    limits::check_m(m)?;
     let links = m as usize;
-    let room = limits::room_fault(3 * links, map.len());
-    if room != 0 {
-        return room;
+    limits::check_room(3 * links, map.len())?;
+    check_links(map, n, links)
+}
+
+// A valid road map: links 1 to m between crossings 1 to n.
+#[derive(Clone, Copy)]
+pub struct Roads<'a> {
+    pub map: &'a [u32],
+    pub n: u32,
+    pub m: u32,
+    ghost valid: { Valid n m map.now },
+}
+
+impl<'a> Roads<'a> {
+    // The lent map, where it is valid for n crossings and m links.
+    #[tactic(auto, using(crate::proofs::Laws::fault_valid))]
+    pub fn new(map: &'a [u32], n: u32, m: u32) -> Result<Roads<'a>, Refusal>
+        ensures fault { fault_of result ≡ map_fault n m map.now }
+        ensures roads { IfOk result (λ r. (r.map.now ≡ map.now) × (r.n ≡ n) × (r.m ≡ m)) }
+    {
+        check(map, n, m)?;
+        Ok(Roads { map, n, m })
     }
-    links_fault(map, n, links)
 }

@@ -1,14 +1,70 @@
 // The layout of a bench, and rules 1, 3 and 4 of a turn on single words, with the one comparison with stretch times optimum.
 #![tactic(auto)]
 
-ghost use Rattle.std.specs.Prelude.{◌≡◌, ◌≤◌};
-ghost use Rattle.shape.specs.Bench.{half_at, marks_at, bench_words};
+ghost use Rattle.std.specs.Prelude.{◌≡◌, ◌≤◌, length};
+ghost use Rattle.shape.specs.Bench.{half, root, half_at, marks_at, bench_words, parse};
 ghost use Rattle.shape.specs.Rules.{within as within_of, beyond as beyond_of, found as found_of, mark_by};
 
+use half::Half;
 use map::Side;
 
 // An unknown optimum.
 const UNKNOWN: u32 = 4294967295;
+
+// A bench for n crossings as it is lent to be read.
+#[derive(Clone, Copy)]
+pub struct Bench<'a> {
+    pub words: &'a [u32],
+    pub n: usize,
+    ghost few: { n ≤ 4096 },
+    ghost room: { bench_words n ≤ length words.now },
+}
+
+impl<'a> Bench<'a> {
+    // The half of a side.
+    pub fn half(&self, side: Side) -> Half<'a>
+        ensures words { result.words.now ≡ half side (parse self.now.n self.now.words.now) }
+        ensures n { result.n ≡ self.now.n }
+    {
+        let a = half_at(side, self.n);
+        let e = a + 3 * self.n;
+        Half {
+            words: &self.words[a..e],
+            n: self.n,
+        }
+    }
+
+    pub fn marks(&self) -> &'a [u32]
+        ensures { result.now ≡ (parse self.now.n self.now.words.now).marks }
+    {
+        &self.words[marks_at(self.n)..bench_words(self.n)]
+    }
+
+    // The crossing at which the half of a side opened.
+    #[tactic(auto, unfolding(crate::specs::Bench::parse))]
+    pub fn root(&self, side: Side) -> u32
+        ensures { result ≡ root side (parse self.now.n self.now.words.now) }
+    {
+        match side {
+            Side::Forward => self.words[2],
+            Side::Backward => self.words[3],
+        }
+    }
+
+    #[tactic(auto, unfolding(crate::specs::Bench::parse))]
+    pub fn stretch(&self) -> u32
+        ensures { result ≡ (parse self.now.n self.now.words.now).stretch }
+    {
+        self.words[4]
+    }
+
+    #[tactic(auto, unfolding(crate::specs::Bench::parse))]
+    pub fn optimum(&self) -> u32
+        ensures { result ≡ (parse self.now.n self.now.words.now).optimum }
+    {
+        self.words[5]
+    }
+}
 
 // Where the words of a half begin.
 pub fn half_at(side: Side, n: usize) -> usize

@@ -1,4 +1,4 @@
--- `half::settle` meets its contract. The loop's invariant: the half is x made settled and then the links up to k. Assumes nothing.
+-- `half::settle_links` meets its contract. The loop's invariant: the half is x made settled and then the links up to k. Assumes nothing.
 use mathlib.Core.Path.{◌≡◌, refl, sym, ◌∙◌, ap}
 use Prim.Native.Nat.{◌+◌}
 use native.Mathlib.Omega.{arith}
@@ -7,7 +7,7 @@ use Rattle.half.proofs.Folds.{up_to_none, up_to_more}
 use Rattle.half.proofs.Laws.{settled_by_lem}
 use Rattle.map.proofs.Walks.{far_in}
 use borrow.Author.Rules.{rules}
-use Rattle.half.proofs.settle.Goals as goal
+use Rattle.half.proofs.settle_links.Goals as goal
 
 pub loop-k-init : goal.loop-k-init
 loop-k-init c = (omega arith, refl, sym (up_to_none _ _))
