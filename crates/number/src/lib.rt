@@ -1,56 +1,62 @@
 // A number at a place of a text.
 #![tactic(auto)]
 
-ghost use Rattle.std.specs.Prelude.{◌≡◌};
+ghost use Rattle.std.specs.Prelude.{◌≡◌, ◌≤◌, ◌<◌, MatchOption};
 ghost use Rattle.number.specs.Number.{digit_of, number_at};
 
-// A number read at a place: its value and the place after it, or the first place that cannot belong to one.
-#[derive(Clone, Copy)]
-pub enum Number {
-    Good(u32, usize),
-    Bad(usize),
+// A number read at a place, and the place after it.
+#[derive(Clone, Copy, Debug, PartialEq, Eq)]
+pub struct Number {
+    pub value: u32,
+    pub next: usize,
 }
 
-// The worth of a digit, and 10 of any other byte.
-fn digit(b: u8) -> u64
-    ensures { result ≡ digit_of b }
+// The first place that cannot belong to what was to be read.
+#[derive(Clone, Copy, Debug, PartialEq, Eq)]
+pub struct Misplaced {
+    pub at: usize,
+}
+
+// The worth of a digit; any other byte has none.
+#[tactic(auto, unfolding(crate::specs::Number::digit_of))]
+fn digit(b: u8) -> Option<u64>
+    ensures { MatchOption result (9 < digit_of b) (λ d. (d ≡ digit_of b) × (d ≤ 9)) }
 {
-    if b < 48 {
-        return 10;
+    match b {
+        b'0'..=b'9' => Some(u64::from(b - b'0')),
+        _ => None,
     }
-    if 57 < b {
-        return 10;
-    }
-    (b - 48) as u64
 }
 
+// The number that begins at a place: digits with no leading zero but `0` itself, up to 4,294,967,295.
 #[tactic(auto, using(crate::proofs::Laws::grow_zero, crate::proofs::Laws::grow_big))]
-pub fn number_at(text: &[u8], at: usize) -> Number
+pub fn number_at(text: &[u8], at: usize) -> Result<Number, Misplaced>
     ensures { result ≡ number_at text.now at }
 {
-    if text.len() <= at {
-        return Number::Bad(at);
-    }
-    let first = digit(text[at]);
-    if 9 < first {
-        return Number::Bad(at);
-    }
-    let mut v: u64 = first;
-    let mut i = at + 1;
-    while i < text.len() {
-        let d = digit(text[i]);
-        if 9 < d {
-            return Number::Good(v as u32, i);
+    let Some(first) = text.get(at) else {
+        return Err(Misplaced { at });
+    };
+    let Some(mut value) = digit(*first) else {
+        return Err(Misplaced { at });
+    };
+    for next in at + 1..text.len() {
+        let Some(d) = digit(text[next]) else {
+            return Ok(Number {
+                value: value as u32,
+                next,
+            });
+        };
+        if value == 0 {
+            return Err(Misplaced { at: next });
         }
-        if v == 0 {
-            return Number::Bad(i);
+        let grown = value * 10 + d;
+        if 4294967295 < grown {
+            return Err(Misplaced { at: next });
         }
-        let w = v * 10 + d;
-        if 4294967295 < w {
-            return Number::Bad(i);
-        }
-        v = w;
-        i += 1;
+        value = grown;
     }
-    Number::Good(v as u32, i)
+    Ok(Number {
+        value: value as u32,
+        next: text.len(),
+    })
 }

@@ -1,23 +1,27 @@
--- `number::number_at` meets its contract. The loop's invariant: the number at the place is the one that v grows to from i on. Assumes nothing.
-use borrow.Author.Rules.{rules}
-use native.Mathlib.Omega.{arith}
+-- `number::number_at` meets its contract. Assumes nothing.
+use Rattle.std.proofs.Common.{sym, ◌∙◌, arith}
 use Rattle.number.proofs.Laws.{number_none, number_bad, number_begun, grow_stop, grow_more, grow_end}
 use Rattle.number.proofs.number_at.Goals as goal
 
-pub returns-then-text-at : goal.returns-then-text-at
-returns-then-text-at c = number_none _ _ c.if-text-at.true
+pub returns-in_default : goal.returns-in_default
+returns-in_default c = number_none _ _ c.in_default.ensures.lookup.3
 
-pub returns-then-first-gt9 : goal.returns-then-first-gt9
-returns-then-first-gt9 c = number_bad _ c.if-text-at.false c.digit-first.ensures c.if-first-gt9.true
+pub returns-in_default-digit : goal.returns-in_default-digit
+returns-in_default-digit c = let here = c.in-Some.ensures.lookup.3 in number_bad _ here.0 (here.1 0) c.in_default-digit.ensures
 
-pub loop-i-init : goal.loop-i-init
-loop-i-init c = (search rules, search rules, number_begun _ c.if-text-at.false c.digit-first.ensures c.if-first-gt9.false)
+pub loop-next-init : goal.loop-next-init
+loop-next-init c =
+    let here = c.in-Some.ensures.lookup.3 in
+    let d = c.in-Some-digit.ensures in
+    (omega arith, omega arith, number_begun _ here.0 (here.1 0) d.0 d.1)
 
-pub returns-then-d-gt9 : goal.returns-then-d-gt9
-returns-then-d-gt9 c = cc (grow_stop _ c.loop-i-test.true c.digit-d.ensures c.loop-i.v c.if-d-gt9.true)
+pub returns-in_default-digit-2 : goal.returns-in_default-digit-2
+returns-in_default-digit-2 c = sym (c.loop-next.invariant.2 ∙ grow_stop _ (omega arith) c.loop-next.value c.in_default-digit-2.ensures)
 
-pub loop-i-preserved : goal.loop-i-preserved
-loop-i-preserved c = (search rules, search rules, cc (grow_more _ c.loop-i-test.true c.digit-d.ensures c.loop-i.v c.if-d-gt9.false (λ z. omega (arith, z)) (omega arith)))
+pub loop-next-preserved : goal.loop-next-preserved
+loop-next-preserved c =
+    let d = c.in-Some-digit-2.ensures in
+    (omega arith, omega arith, c.loop-next.invariant.2 ∙ grow_more _ (omega arith) d.0 d.1 c.loop-next.value (λ z. omega (arith, z)) (omega arith))
 
 pub returns : goal.returns
-returns c = cc (grow_end _ c.loop-i.v c.loop-i.i c.loop-i-test.false)
+returns c = let l = c.loop-next in sym (l.invariant.2 ∙ grow_end _ l.value (omega arith))
