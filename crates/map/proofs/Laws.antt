@@ -1,35 +1,11 @@
--- The ways that the check of a map goes, and: a map has no fault exactly if it is valid. Assumes nothing.
-use mathlib.Core.Path.{◌≡◌, sym, ◌∙◌}
+-- A map has no fault exactly if it is valid. Assumes nothing.
+use mathlib.Core.Path.{◌≡◌}
 use mathlib.Core.List.{List}
 use Prim.Native.Nat.{ℕ, ◌*◌}
 use native.Mathlib.Omega.{arith}
 use lib.ListN.{length}
-use Rattle.limits.specs.First.{or_else, first_from}
-use Rattle.limits.specs.Limits.{n_fault, m_fault, room_fault}
-use Rattle.limits.proofs.Laws.{or_else_first, or_else_second, or_else_none, none_or_else, first_none, none_first, outside_none, none_outside, room_none, none_room}
+use Rattle.limits.proofs.Laws.{or_else_none, none_or_else, first_none, none_first, outside_none, none_outside, room_none, none_room}
 use Rattle.map.specs.Map.{tail, head, cost, Link, Valid, ends_fault, link_fault, counts_fault, map_fault}
-
--- ---- the ways that the check of a map goes
-
-pub counts_by : (n m : ℕ) {a b f : ℕ} → a ≡ n_fault n → b ≡ m_fault m → f ≡ or_else a b → f ≡ counts_fault n m
-unfolding counts_fault
-counts_by n m p q e = cc
-
-module _ (n m : ℕ) (map : List ℕ) {f : ℕ} (e : f ≡ counts_fault n m) where
-  pub fault_counts : (f ≡ 0 → ⊥) → f ≡ map_fault n m map
-  unfolding map_fault
-  fault_counts h = rw (← e) (sym (or_else_first _ _ h))
-
-  module _ {g : ℕ} (z : f ≡ 0) (q : g ≡ room_fault (3 * m) (length map)) where
-    pub fault_room : (g ≡ 0 → ⊥) → g ≡ map_fault n m map
-    unfolding map_fault
-    fault_room h = rw (← e, ← q) (sym (or_else_second _ _ z ∙ or_else_first _ _ h))
-
-    pub fault_links : g ≡ 0 → first_from (link_fault n map) 1 m ≡ map_fault n m map
-    unfolding map_fault
-    fault_links h = rw (← e, ← q) (sym (or_else_second _ _ z ∙ or_else_second _ _ h))
-
--- ---- a map has no fault exactly if it is valid
 
 module _ (n : ℕ) (map : List ℕ) (k : ℕ) where
   link_valid : link_fault n map k ≡ 0 → Link n map k

@@ -41,8 +41,8 @@ fn check_links(map: &[u32], n: u32, m: usize) -> Result<(), Refusal>
     Ok(())
 }
 
+// The first fault of a lent map of n crossings and m links: the counts, the room, then the links.
 #[tactic(auto, using(limits::proofs::Refused::refused_first, limits::proofs::Refused::passed_first, limits::proofs::Laws::room_for), unfolding(crate::specs::Map::map_fault, crate::specs::Map::counts_fault))]
-// A lent map of n crossings and m links.
 pub fn check(map: &[u32], n: u32, m: u32) -> Result<(), Refusal>
     ensures { fault_of result ≡ map_fault n m map.now }
 {
