@@ -3,3 +3,4 @@ pub mod Rounds
 pub mod Parts
 pub mod Marks
 pub mod Turns
+pub mod Props

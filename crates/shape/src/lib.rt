@@ -22,6 +22,7 @@ pub struct Bench<'a> {
 
 impl<'a> Bench<'a> {
     // The half of a side.
+    #[tactic(auto, using(crate::proofs::Rounds::half_part))]
     pub fn half(&self, side: Side) -> Half<'a>
         ensures words { result.words.now ≡ half side (parse self.now.n self.now.words.now) }
         ensures n { result.n ≡ self.now.n }
@@ -34,8 +35,10 @@ impl<'a> Bench<'a> {
         }
     }
 
+    #[tactic(auto, using(crate::proofs::Rounds::marks_part))]
     pub fn marks(&self) -> &'a [u32]
-        ensures { result.now ≡ (parse self.now.n self.now.words.now).marks }
+        ensures marks { result.now ≡ (parse self.now.n self.now.words.now).marks }
+        ensures room { length result.now ≡ self.now.n }
     {
         &self.words[marks_at(self.n)..bench_words(self.n)]
     }

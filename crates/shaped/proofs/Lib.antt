@@ -1,2 +1,2 @@
-pub mod Shaped
+pub mod Shapes
 pub mod Lent

@@ -1,168 +1,157 @@
 // The check of a bench's shape, and of what every call on a bench is lent.
 #![tactic(auto)]
 
-ghost use Rattle.std.specs.Prelude.{◌≡◌, ◌*◌, ◌≤◌, length};
-ghost use Rattle.shape.specs.Bench.{half as half_of, bench_words, parse};
-ghost use Rattle.shaped.specs.Shape.{unlike as unlike_of, unseen_fault, seen_fault, entry_fault, half_fault, marks_fault, size_fault, ends_fault, optimum_fault, head_fault, shape_fault};
+ghost use Rattle.std.specs.Prelude.{◌≡◌, length, IfOk};
+ghost use Rattle.limits.specs.Refusals.{fault_of};
+ghost use Rattle.shape.specs.Bench.{parse, WellShaped};
+ghost use Rattle.shape.proofs.Props.{well_shaped_prop};
+ghost use Rattle.shaped.specs.Shape.{unlike, unseen_fault, seen_fault, entry_fault, half_fault, marks_fault, size_fault, ends_fault, optimum_fault, head_fault, shape_fault};
 ghost use Rattle.shaped.specs.Lent.{lent_fault};
 
-use half::Entry;
-use map::Side;
+use half::{Entry, Half};
+use limits::Refusal;
+use map::{Roads, Side};
+use shape::Bench;
 
-// No distance goes above it.
-const CEILING: u32 = 268365825;
-
-// An unknown optimum, and the distance of an unseen crossing.
-const UNKNOWN: u32 = 4294967295;
-
-// 6 where two words differ.
-fn unlike(a: u32, b: u32) -> u32
-    ensures { result ≡ unlike_of a b }
+// Of two words that have to agree.
+#[tactic(auto, unfolding(crate::specs::Shape::unlike))]
+fn check_same(a: u32, b: u32) -> Result<(), Refusal>
+    ensures { fault_of result ≡ unlike a b }
 {
-    if a == b { 0 } else { 6 }
+    if a != b {
+        return Err(Refusal::Shape);
+    }
+    Ok(())
 }
 
-fn unseen_fault(e: Entry) -> u32
-    ensures { result ≡ unseen_fault e }
+#[tactic(auto, using(limits::proofs::Refused::refused_first, limits::proofs::Refused::passed_first), unfolding(crate::specs::Shape::unseen_fault))]
+fn check_unseen(e: Entry) -> Result<(), Refusal>
+    ensures { fault_of result ≡ unseen_fault e }
 {
-    limits::or_else(unlike(e.dist, UNKNOWN), unlike(e.link, 0))
+    check_same(e.dist, limits::UNKNOWN)?;
+    check_same(e.link, 0)
 }
 
-fn seen_fault(m: u32, e: Entry) -> u32
-    ensures { result ≡ seen_fault m e }
+#[tactic(auto, using(limits::proofs::Refused::refused_first, limits::proofs::Refused::passed_first), unfolding(crate::specs::Shape::seen_fault))]
+fn check_seen(m: u32, e: Entry) -> Result<(), Refusal>
+    ensures { fault_of result ≡ seen_fault m e }
 {
-    let dist = limits::outside(0, CEILING, 6, e.dist);
-    let link = limits::outside(0, m, 6, e.link);
-    limits::or_else(
-        dist,
-        limits::or_else(link, limits::outside(1, 2, 6, e.state)),
-    )
+    limits::check_range(0, limits::CEILING, Refusal::Shape, e.dist)?;
+    limits::check_range(0, m, Refusal::Shape, e.link)?;
+    limits::check_range(1, 2, Refusal::Shape, e.state)
 }
 
-fn entry_fault(m: u32, e: Entry) -> u32
-    ensures { result ≡ entry_fault m e }
+#[tactic(auto, unfolding(crate::specs::Shape::entry_fault))]
+fn check_entry(m: u32, e: Entry) -> Result<(), Refusal>
+    ensures { fault_of result ≡ entry_fault m e }
 {
     if e.state == 0 {
-        return unseen_fault(e);
+        return check_unseen(e);
     }
-    seen_fault(m, e)
+    check_seen(m, e)
 }
 
-// The words of one half.
-fn half_fault(half: &[u32], n: usize, m: u32) -> u32
-    requires { length half.now ≡ 3 * n }
-    ensures { result ≡ half_fault n m half.now }
+#[tactic(auto, unfolding(crate::specs::Shape::half_fault))]
+fn check_half(m: u32, half: Half) -> Result<(), Refusal>
+    ensures { fault_of result ≡ half_fault half.entry.n m half.entry.words.now }
 {
-    let mut fine = true;
-    let mut v: usize = 0;
-    while v < n {
-        v += 1;
-        fine = limits::still_fine(fine, entry_fault(m, half::load(half, n, v)));
+    if !limits::all_pass(half.n, |v| check_entry(m, half.entry(v))) {
+        return Err(Refusal::Shape);
     }
-    if fine { 0 } else { 6 }
+    Ok(())
 }
 
-fn marks_fault(marks: &[u32], n: usize) -> u32
-    requires { length marks.now ≡ n }
-    ensures { result ≡ marks_fault n marks.now }
+#[tactic(auto, unfolding(crate::specs::Shape::marks_fault))]
+fn check_marks(marks: &[u32]) -> Result<(), Refusal>
+    ensures { fault_of result ≡ marks_fault (length marks.now) marks.now }
 {
-    let mut fine = true;
-    let mut v: usize = 0;
-    while v < n {
-        v += 1;
-        fine = limits::still_fine(fine, limits::outside(0, 1, 6, marks[v - 1]));
+    if !limits::all_pass(
+        marks.len(),
+        |v| limits::check_range(0, 1, Refusal::Shape, marks[v - 1]),
+    ) {
+        return Err(Refusal::Shape);
     }
-    if fine { 0 } else { 6 }
+    Ok(())
 }
 
-fn optimum_fault(optimum: u32) -> u32
-    ensures { result ≡ optimum_fault optimum }
+#[tactic(auto, unfolding(crate::specs::Shape::optimum_fault))]
+fn check_optimum(optimum: u32) -> Result<(), Refusal>
+    ensures { fault_of result ≡ optimum_fault optimum }
 {
-    if optimum == UNKNOWN {
-        return 0;
+    if optimum == limits::UNKNOWN {
+        return Ok(());
     }
-    limits::outside(0, CEILING, 6, optimum)
+    limits::check_range(0, limits::CEILING, Refusal::Shape, optimum)
 }
 
-fn size_fault(bench: &[u32], n: u32, m: u32) -> u32
-    requires { 6 ≤ length bench.now }
-    ensures { result ≡ size_fault n m (parse n bench.now) }
+#[tactic(auto, using(limits::proofs::Refused::refused_first, limits::proofs::Refused::passed_first), unfolding(crate::specs::Shape::size_fault, shape::specs::Bench::parse))]
+fn check_size(n: u32, m: u32, bench: &Bench) -> Result<(), Refusal>
+    ensures { fault_of result ≡ size_fault n m (parse bench.now.n bench.now.words.now) }
 {
-    limits::or_else(unlike(bench[0], n), unlike(bench[1], m))
+    check_same(bench.words[0], n)?;
+    check_same(bench.words[1], m)
 }
 
-fn ends_fault(bench: &[u32], n: u32) -> u32
-    requires { 6 ≤ length bench.now }
-    ensures { result ≡ ends_fault n (parse n bench.now) }
+#[tactic(auto, using(limits::proofs::Refused::refused_first, limits::proofs::Refused::passed_first), unfolding(crate::specs::Shape::ends_fault))]
+fn check_ends(n: u32, bench: &Bench) -> Result<(), Refusal>
+    ensures { fault_of result ≡ ends_fault n (parse bench.now.n bench.now.words.now) }
 {
-    limits::or_else(
-        limits::outside(1, n, 6, bench[2]),
-        limits::outside(1, n, 6, bench[3]),
-    )
+    limits::check_range(1, n, Refusal::Shape, bench.root(Side::Forward))?;
+    limits::check_range(1, n, Refusal::Shape, bench.root(Side::Backward))
 }
 
 // Words 0 to 5.
-fn head_fault(bench: &[u32], n: u32, m: u32) -> u32
-    requires { 6 ≤ length bench.now }
-    ensures { result ≡ head_fault n m (parse n bench.now) }
+#[tactic(auto, using(limits::proofs::Refused::refused_first, limits::proofs::Refused::passed_first), unfolding(crate::specs::Shape::head_fault))]
+fn check_head(n: u32, m: u32, bench: &Bench) -> Result<(), Refusal>
+    ensures { fault_of result ≡ head_fault n m (parse bench.now.n bench.now.words.now) }
 {
-    let size = size_fault(bench, n, m);
-    let ends = ends_fault(bench, n);
-    let stretch = limits::outside(1000, 4000, 6, bench[4]);
-    let optimum = optimum_fault(bench[5]);
-    limits::or_else(
-        size,
-        limits::or_else(ends, limits::or_else(stretch, optimum)),
-    )
+    check_size(n, m, bench)?;
+    check_ends(n, bench)?;
+    limits::check_range(1000, 4000, Refusal::Shape, bench.stretch())?;
+    check_optimum(bench.optimum())
 }
 
-// The words of the half of this side.
-fn side_fault(bench: &[u32], n: usize, m: u32, side: Side) -> u32
-    requires { (n ≤ 4096) × (bench_words n ≤ length bench.now) }
-    ensures { result ≡ half_fault n m (half_of side (parse n bench.now)) }
+// Whether the bench is well shaped for the roads.
+#[tactic(auto, using(limits::proofs::Refused::refused_first, limits::proofs::Refused::passed_first), unfolding(crate::specs::Shape::shape_fault))]
+fn check_shape(roads: &Roads, bench: &Bench) -> Result<(), Refusal>
+    requires { bench.now.n ≡ roads.now.n }
+    ensures { fault_of result ≡ shape_fault roads.now.n roads.now.m (parse roads.now.n bench.now.words.now) }
 {
-    let a = shape::half_at(side, n);
-    let e = a + 3 * n;
-    half_fault(&bench[a..e], n, m)
+    check_head(roads.n, roads.m, bench)?;
+    check_half(roads.m, bench.half(Side::Forward))?;
+    check_half(roads.m, bench.half(Side::Backward))?;
+    check_marks(bench.marks())
 }
 
-fn all_marks_fault(bench: &[u32], n: usize) -> u32
-    requires { (n ≤ 4096) × (bench_words n ≤ length bench.now) }
-    ensures { result ≡ marks_fault n (parse n bench.now).marks }
-{
-    let a = shape::marks_at(n);
-    let e = shape::bench_words(n);
-    marks_fault(&bench[a..e], n)
+// A valid map, and a bench that is well shaped for it.
+#[derive(Clone, Copy)]
+pub struct Shaped<'a, 'b> {
+    pub roads: Roads<'a>,
+    pub bench: Bench<'b>,
+    ghost same_n: { bench.n ≡ roads.n },
+    ghost shaped: { WellShaped roads.n roads.m (parse roads.n bench.words.now) } by { well_shaped_prop },
 }
 
-// 6 where the bench is not well shaped for a map of n crossings and m links, or 0.
-fn shape_fault(bench: &[u32], n: u32, m: u32) -> u32
-    requires { (n ≤ 4096) × (bench_words n ≤ length bench.now) }
-    ensures { result ≡ shape_fault n m (parse n bench.now) }
+// The map, then the check of the call's own number, made before, then the bench.
+#[tactic(auto, using(limits::proofs::Refused::refused_first, limits::proofs::Refused::passed_first, limits::proofs::Laws::room_for, crate::proofs::Shapes::shaped_for), unfolding(crate::specs::Lent::lent_fault))]
+pub fn check_lent<'a, 'b>(
+    map: &'a [u32],
+    n: u32,
+    m: u32,
+    given: Result<(), Refusal>,
+    bench: &'b [u32],
+) -> Result<Shaped<'a, 'b>, Refusal>
+    ensures fault { fault_of result ≡ lent_fault map.now n m (fault_of given) bench.now }
+    ensures lent { IfOk result (λ s. (s.roads.map.now ≡ map.now) × (s.roads.n ≡ n) × (s.roads.m ≡ m) × (s.bench.words.now ≡ bench.now)) }
 {
+    let roads = Roads::new(map, n, m)?;
+    given?;
     let crossings = n as usize;
-    let head = head_fault(bench, n, m);
-    let forward = side_fault(bench, crossings, m, Side::Forward);
-    let backward = side_fault(bench, crossings, m, Side::Backward);
-    let marks = all_marks_fault(bench, crossings);
-    limits::or_else(
-        head,
-        limits::or_else(forward, limits::or_else(backward, marks)),
-    )
-}
-
-// The map, then a number of the call's own, then the bench.
-pub fn lent_fault(map: &[u32], n: u32, m: u32, given: u32, bench: &[u32]) -> u32
-    ensures { result ≡ lent_fault map.now n m given bench.now }
-{
-    let fault = map::fault(map, n, m);
-    if fault != 0 {
-        return fault;
-    }
-    let room = limits::room_fault(shape::bench_words(n as usize), bench.len());
-    let first = limits::or_else(given, room);
-    if first != 0 {
-        return first;
-    }
-    shape_fault(bench, n, m)
+    limits::check_room(shape::bench_words(crossings), bench.len())?;
+    let bench = Bench {
+        words: bench,
+        n: crossings,
+    };
+    check_shape(&roads, &bench)?;
+    Ok(Shaped { roads, bench })
 }

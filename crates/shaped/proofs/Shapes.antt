@@ -1,5 +1,5 @@
 -- The check finds no fault exactly if the bench is well shaped; an opened bench is. Assumes nothing.
-use mathlib.Core.Path.{◌≡◌, refl}
+use mathlib.Core.Path.{◌≡◌, refl, sym}
 use mathlib.Core.Logic.{◌⊎◌, inl, inr}
 use mathlib.Core.List.{List}
 use Prim.Native.Nat.{ℕ, ◌*◌, ◌-◌, ◌≤◌}
@@ -17,9 +17,9 @@ use Rattle.map.specs.declared.Side.TheVariants.{Forward, Backward}
 use Rattle.half.specs.Half.{unknown, ceiling, entry, Shaped, unseen, seen, ShapedHalf}
 use Rattle.half.specs.declared.Entry.{Entry}
 use Rattle.half.proofs.Shape.{open_shaped}
-use Rattle.shape.specs.Bench.{Bench, half, opened, WellShaped}
+use Rattle.shape.specs.Bench.{Bench, half, bench_words, parse, opened, WellShaped}
 use Rattle.shaped.specs.Shape.{unlike, unseen_fault, seen_fault, entry_fault, half_fault, marks_fault, size_fault, ends_fault, optimum_fault, head_fault, shape_fault}
-use Rattle.shape.proofs.Rounds.{Room}
+use Rattle.shape.proofs.Rounds.{Room, parse_room}
 
 -- ---- the words
 
@@ -140,6 +140,10 @@ module _ {n m : ℕ} {b : Bench} where
       (none_or_else _ _ (none_half n m _ (w.halves Forward))
       (none_or_else _ _ (none_half n m _ (w.halves Backward))
       (none_marks n _ w.marks_in)))
+
+-- the words that a call is lent
+pub shaped_for : (n m : ℕ) (x : List ℕ) → bench_words n ≤ length x → 0 ≡ shape_fault n m (parse n x) → WellShaped n m (parse n x)
+shaped_for n m x room e = fault_shaped (parse_room n x room) (sym e)
 
 -- ---- opened
 
