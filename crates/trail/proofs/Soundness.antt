@@ -9,7 +9,7 @@ use native.Mathlib.Decide.{ℕ_discrete}
 use lib.Dec.{eqb}
 use lib.ListN.{length, get_or}
 use lib.Seq.{ext_get_or}
-use borrow.Author.Tests.{eqb-true, leb-true, eq-eqb}
+use borrow.Author.Tests.{eqb-true, leb-true, eq-eqb, le-leb}
 use Rattle.limits.specs.Limits.{Between}
 use Rattle.limits.proofs.Cases.{and_both, cond_then}
 use Rattle.limits.proofs.Fine.{fine_all, all_fine_lem}
@@ -25,7 +25,7 @@ use Rattle.shape.proofs.Marks.{marks_length, marks_at_lem}
 use Rattle.trail.specs.Sound.{SoundHalf, root_fault, tight_fault, named_fault, sound_at, sound_fault, MarksSound, mark_fault, marks_fault}
 use Rattle.trail.specs.Trail.{Settled, Trails, Walkable}
 use Rattle.trail.proofs.Tests.{seven_none}
-use Rattle.trail.proofs.Checks.{settled_low, tight_right, named_by, sound_root, sound_unsettled, sound_settled}
+use Rattle.trail.proofs.Checks.{settled_low, sound_root, sound_unsettled, sound_settled}
 
 -- ---- one half
 
@@ -56,16 +56,16 @@ module _ (side : Side) (map : List ℕ) (n m root : ℕ) (h : List ℕ) where
       }
 
   link_named : (v : ℕ) → Tight side map n m h v (link n h v) → 0 ≡ named_fault side map n m h v (dist h v) (link n h v)
+  unfolding named_fault tight_fault
   link_named v r =
-      named_by side map n m h v (dist h v) (link n h v) r.inside.least r.inside.most
-      (tight_right side map n h v (dist h v) (link n h v) refl r.comes refl refl r.from r.exact)
+      simp (le-leb _ _ r.inside.least, le-leb _ _ r.inside.most, eq-eqb _ _ r.comes, eq-eqb _ _ r.from, eq-eqb _ _ (sym r.exact))
 
   pub fault_sound : Between 1 n root → sound_fault side map n m root h ≡ 0 → SoundHalf side map n m root h
   unfolding sound_fault
   fault_sound i z =
       record {
-        root_is = root_entry (entry n h root) (sound_root side map n m root h root refl refl refl ∙ fine_all _ n (seven_none _ z) root i);
-        named = λ v j ne s. named_link v (sound_settled side map n m root h v refl ne s refl ∙ fine_all _ n (seven_none _ z) v j);
+        root_is = root_entry (entry n h root) (sound_root side map n m root h root refl ∙ fine_all _ n (seven_none _ z) root i);
+        named = λ v j ne s. named_link v (sound_settled side map n m root h v ne s ∙ fine_all _ n (seven_none _ z) v j);
       }
 
   pub sound_fault_lem : SoundHalf side map n m root h → sound_fault side map n m root h ≡ 0
@@ -75,10 +75,10 @@ module _ (side : Side) (map : List ℕ) (n m root : ℕ) (h : List ℕ) where
       at : (v : ℕ) → Between 1 n v → 0 ≡ sound_at side map n m root h v
       at v i =
           dite (ℕ_discrete v root)
-          (λ z. sound_root side map n m root h v refl z (entry_root _ (ap (entry n h) z ∙ sound.root_is)))
+          (λ z. entry_root _ (ap (entry n h) z ∙ sound.root_is) ∙ sound_root side map n m root h v z)
           (λ ne. dite (ℕ_discrete (state n h v) 2)
-          (λ s. sound_settled side map n m root h v refl ne s (link_named v (sound.named v i ne s)))
-          (λ o. sound_unsettled side map n m root h v refl ne o))
+          (λ s. link_named v (sound.named v i ne s) ∙ sound_settled side map n m root h v ne s)
+          (λ o. sound_unsettled side map n m root h v ne o))
 
   -- ---- walking on it
 
@@ -127,7 +127,7 @@ module _ (n stretch optimum : ℕ) (f g marks : List ℕ) where
       rw (all_fine_lem (mark_fault n stretch optimum f g marks) n
       (λ v i. simp (eq-eqb _ _ (ap (λ (l : List ℕ). get_or l (v - 1) 0) e ∙ marks_at_lem n stretch optimum f g i))))
 
-  -- a marked crossing is settled in and_both halves
+  -- a marked crossing is settled in both halves
   module _ (e : marks ≡ marks_of n stretch optimum f g) (v : ℕ) (i : Between 1 n v) (one : get_or marks (v - 1) 0 ≡ 1) where
     marked_tests : (state n f v ≡ 2) × (state n g v ≡ 2)
     unfolding mark

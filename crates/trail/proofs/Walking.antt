@@ -1,6 +1,7 @@
 -- Walking a trail: how it goes on, that it ends, and how to show a thing of all trails. Assumes nothing.
 use mathlib.Core.Path.{◌≡◌, refl, sym, ◌∙◌, ap}
 use mathlib.Core.Logic.{◌≢◌, dite}
+use Rattle.std.proofs.Common.{Option, Some, None, IfSome}
 use mathlib.Core.List.{List, [], ◌∷◌}
 use Prim.Native.Nat.{ℕ, zero, suc, ◌-◌, ◌≤◌, ◌<◌}
 use native.Mathlib.Omega.{arith}
@@ -11,7 +12,7 @@ use borrow.Author.Tests.{eq-eqb, ne_eqb}
 use Rattle.limits.proofs.Cases.{cond_both}
 use Rattle.map.specs.Walk.{near}
 use Rattle.map.specs.declared.Side.{Side}
-use Rattle.half.specs.Half.{dist, link}
+use Rattle.half.specs.Half.{or_zero, ceiling, dist, link}
 use Rattle.trail.specs.Trail.{after, trail_from, trail, Settled, Trails}
 use Rattle.trail.proofs.Rank.{rank, rank_lt, rank_top}
 
@@ -102,6 +103,13 @@ module _ {side : Side} {map : List ℕ} {n : ℕ} {h : List ℕ} (walk : Trails 
           let o = walk.onward v s ne in
           rw (after_some side map n h v ne) (more v s ne (go d (near side map (link n h v)) o.next (omega (arith, o.nearer))))))
 
+  -- a trail has no more crossings than its first is far
+  pub trail_few : (v : ℕ) → Settled n h v → length (trail side map n h v) ≤ suc ceiling
+  trail_few v s = omega (arith, walk.low v s, few v s)
+    where
+      few : (v : ℕ) → Settled n h v → length (trail side map n h v) ≤ suc (dist h v)
+      few = trail_induct (λ v qs. length qs ≤ suc (dist h v)) (λ v s z. omega arith) (λ v s nz r. omega (arith, r, (walk.onward v s nz).nearer))
+
   -- ---- a step of a loop, to y
 
   module _ (v : ℕ) (s : Settled n h v) {y : ℕ} (e : y ≡ after side map n h v) where
@@ -113,3 +121,15 @@ module _ {side : Side} {map : List ℕ} {n : ℕ} {h : List ℕ} (walk : Trails 
 
     pub step_trail : trail side map n h v ≡ v ∷ trail side map n h y
     step_trail = rw e (trail_more v s)
+
+  -- ---- a loop stands at a crossing, or has none left
+
+  module _ {at : Option ℕ} {v : ℕ} (here : at ≡ Some v) (s : IfSome at (Settled n h)) where
+    pub walk_here : Settled n h v
+    walk_here = rw here at s
+
+    pub walk_on : {y : ℕ} → y ≡ after side map n h v → trail side map n h (or_zero at) ≡ v ∷ trail side map n h y
+    walk_on e = rw here (step_trail v walk_here e)
+
+pub walk_done : (side : Side) (map : List ℕ) (n : ℕ) (h : List ℕ) {at : Option ℕ} → at ≡ None → trail side map n h (or_zero at) ≡ []
+walk_done side map n h e = rw e (trail_none side map n h 0 refl)

@@ -1,176 +1,163 @@
 // Trails of a bench: whether they are sound, and walking along them.
 #![tactic(auto)]
 
-ghost use Rattle.std.specs.Prelude.{◌≡◌, ◌*◌, length};
+ghost use Rattle.std.specs.Prelude.{◌≡◌, ◌*◌, length, IfSome};
 ghost use Rattle.limits.specs.Limits.{Between};
-ghost use Rattle.map.specs.Map.{Valid};
-ghost use Rattle.half.specs.Half.{ShapedHalf};
-ghost use Rattle.shape.specs.Rules.{mark};
+ghost use Rattle.limits.specs.Refusals.{fault_of};
+ghost use Rattle.half.specs.Half.{or_zero, ShapedHalf};
 ghost use Rattle.trail.specs.Sound.{root_fault, tight_fault, named_fault, sound_at, sound_fault, mark_fault, marks_fault};
-ghost use Rattle.trail.specs.Trail.{after as after_of, trail, Settled, Trails};
+ghost use Rattle.trail.specs.Trail.{after as after_of, trail, Settled, Trails as CanWalk};
 
-use half::Entry;
-use map::Side;
+use half::{Entry, Half};
+use limits::Refusal;
+use map::{Roads, Side};
 
 // The root is settled at distance 0 with link number 0.
-fn root_fault(e: Entry) -> u32
-    ensures { result ≡ root_fault e }
+#[tactic(auto, unfolding(crate::specs::Sound::root_fault))]
+fn check_root(e: Entry) -> Result<(), Refusal>
+    ensures { fault_of result ≡ root_fault e }
 {
-    if e.dist != 0 {
-        return 7;
+    if e.dist != 0 || e.link != 0 || e.state != 2 {
+        return Err(Refusal::Trails);
     }
-    if e.link != 0 {
-        return 7;
-    }
-    if e.state != 2 {
-        return 7;
-    }
-    0
+    Ok(())
 }
 
 // Link k comes to v, settled at distance d, from a settled crossing, whose distance and the cost are d.
-#[tactic(auto, using(crate::proofs::Checks::tight_off, crate::proofs::Checks::tight_open))]
-fn tight_fault(
-    map: &[u32],
-    half: &[u32],
-    n: usize,
-    m: usize,
+#[tactic(auto, unfolding(crate::specs::Sound::tight_fault, map::specs::Map::cost))]
+fn check_tight(
+    roads: &Roads,
+    half: &Half,
     side: Side,
     v: usize,
     d: u32,
     k: usize,
-) -> u32
-    requires { Valid n m map.now × ShapedHalf n m half.now × Between 1 m k }
-    ensures { result ≡ tight_fault side map.now n half.now v d k }
+) -> Result<(), Refusal>
+    requires { (half.now.n ≡ roads.now.n) × ShapedHalf roads.now.n roads.now.m half.now.words.now × Between 1 roads.now.m k }
+    ensures { fault_of result ≡ tight_fault side roads.now.map.now roads.now.n half.now.words.now v d k }
 {
-    if half::far(map, side, k) as usize != v {
-        return 7;
+    let end = half.entry(half::near(roads.map, side, k) as usize);
+    if half::far(roads.map, side, k) as usize != v
+        || end.state != 2
+        || end.dist + roads.map[3 * k - 1] != d
+    {
+        return Err(Refusal::Trails);
     }
-    let end = half::load(half, n, half::near(map, side, k) as usize);
-    if end.state != 2 {
-        return 7;
-    }
-    if end.dist + map[3 * k - 1] != d {
-        return 7;
-    }
-    0
+    Ok(())
 }
 
-// The link number k of v, settled at distance d, names such a link.
-fn named_fault(
-    map: &[u32],
-    half: &[u32],
-    n: usize,
-    m: usize,
-    side: Side,
-    v: usize,
-    d: u32,
-    k: usize,
-) -> u32
-    requires { Valid n m map.now × ShapedHalf n m half.now }
-    ensures { result ≡ named_fault side map.now n m half.now v d k }
+// The link number of v, settled with these words, names such a link.
+#[tactic(auto, using(crate::proofs::Checks::named_refused, crate::proofs::Checks::named_in), unfolding(crate::specs::Sound::named_fault))]
+fn check_named(roads: &Roads, half: &Half, side: Side, v: usize, e: Entry) -> Result<(), Refusal>
+    requires { (half.now.n ≡ roads.now.n) × ShapedHalf roads.now.n roads.now.m half.now.words.now }
+    ensures { fault_of result ≡ named_fault side roads.now.map.now roads.now.n roads.now.m half.now.words.now v e.dist e.link }
 {
-    if k < 1 {
-        return 7;
-    }
-    if m < k {
-        return 7;
-    }
-    tight_fault(map, half, n, m, side, v, d, k)
+    limits::check_range(1, roads.m, Refusal::Trails, e.link)?;
+    check_tight(roads, half, side, v, e.dist, e.link as usize)
 }
 
-fn sound_at(map: &[u32], half: &[u32], n: usize, m: usize, side: Side, root: usize, v: usize) -> u32
-    requires { Valid n m map.now × ShapedHalf n m half.now × Between 1 n v }
-    ensures { result ≡ sound_at side map.now n m root half.now v }
+// What a half holds of v is sound.
+#[tactic(auto, unfolding(crate::specs::Sound::sound_at))]
+fn check_at(roads: &Roads, half: &Half, side: Side, root: u32, v: usize) -> Result<(), Refusal>
+    requires { (half.now.n ≡ roads.now.n) × ShapedHalf roads.now.n roads.now.m half.now.words.now × Between 1 roads.now.n v }
+    ensures { fault_of result ≡ sound_at side roads.now.map.now roads.now.n roads.now.m root half.now.words.now v }
 {
-    let e = half::load(half, n, v);
-    if v == root {
-        return root_fault(e);
+    let e = half.entry(v);
+    if v == root as usize {
+        return check_root(e);
     }
     if e.state != 2 {
-        return 0;
+        return Ok(());
     }
-    named_fault(map, half, n, m, side, v, e.dist, e.link as usize)
+    check_named(roads, half, side, v, e)
 }
 
-// 7 where the trails of a half are not sound, else 0.
-pub fn sound_fault(map: &[u32], half: &[u32], n: usize, m: usize, side: Side, root: usize) -> u32
-    requires { Valid n m map.now × ShapedHalf n m half.now }
-    ensures { result ≡ sound_fault side map.now n m root half.now }
+// The trails of a half are sound.
+#[tactic(auto, unfolding(crate::specs::Sound::sound_fault))]
+pub fn check_sound(roads: &Roads, half: &Half, side: Side, root: u32) -> Result<(), Refusal>
+    requires { (half.now.n ≡ roads.now.n) × ShapedHalf roads.now.n roads.now.m half.now.words.now }
+    ensures { fault_of result ≡ sound_fault side roads.now.map.now roads.now.n roads.now.m root half.now.words.now }
 {
-    let mut fine = true;
-    let mut v: usize = 0;
-    while v < n {
-        v += 1;
-        fine = limits::still_fine(fine, sound_at(map, half, n, m, side, root, v));
+    if limits::all_pass(half.n, |v| check_at(roads, half, side, root, v)) {
+        return Ok(());
     }
-    if fine { 0 } else { 7 }
+    Err(Refusal::Trails)
 }
 
-// Rule 4 for v.
-fn mark_at(f: &[u32], g: &[u32], n: usize, stretch: u32, optimum: u32, v: usize) -> u32
-    requires { Between 1 n v × (length f.now ≡ 3 * n) × (length g.now ≡ 3 * n) }
-    ensures { result ≡ mark n stretch optimum f.now g.now v }
-{
-    let a = half::load(f, n, v);
-    let b = half::load(g, n, v);
-    shape::mark_of(stretch, optimum, a.state, b.state, a.dist, b.dist)
-}
-
-fn mark_fault(
-    f: &[u32],
-    g: &[u32],
+// The mark of v is what rule 4 gives.
+#[tactic(auto, unfolding(crate::specs::Sound::mark_fault, shape::specs::Rules::mark))]
+fn check_mark(
+    f: &Half,
+    g: &Half,
     marks: &[u32],
-    n: usize,
     stretch: u32,
     optimum: u32,
     v: usize,
-) -> u32
-    requires { Between 1 n v × (length f.now ≡ 3 * n) × (length g.now ≡ 3 * n) × (length marks.now ≡ n) }
-    ensures { result ≡ mark_fault n stretch optimum f.now g.now marks.now v }
+) -> Result<(), Refusal>
+    requires { (g.now.n ≡ f.now.n) × (length marks.now ≡ f.now.n) × Between 1 f.now.n v }
+    ensures { fault_of result ≡ mark_fault f.now.n stretch optimum f.now.words.now g.now.words.now marks.now v }
 {
-    if marks[v - 1] != mark_at(f, g, n, stretch, optimum, v) {
-        return 7;
+    let a = f.entry(v);
+    let b = g.entry(v);
+    if marks[v - 1] != shape::mark_of(stretch, optimum, a.state, b.state, a.dist, b.dist) {
+        return Err(Refusal::Trails);
     }
-    0
+    Ok(())
 }
 
-// 7 where a mark is not what rule 4 gives, else 0.
-pub fn marks_fault(f: &[u32], g: &[u32], marks: &[u32], n: usize, stretch: u32, optimum: u32) -> u32
-    requires { (length f.now ≡ 3 * n) × (length g.now ≡ 3 * n) × (length marks.now ≡ n) }
-    ensures { result ≡ marks_fault n stretch optimum f.now g.now marks.now }
+// The marks are what rule 4 gives.
+#[tactic(auto, unfolding(crate::specs::Sound::marks_fault))]
+pub fn check_marks(
+    f: &Half,
+    g: &Half,
+    marks: &[u32],
+    stretch: u32,
+    optimum: u32,
+) -> Result<(), Refusal>
+    requires { (g.now.n ≡ f.now.n) × (length marks.now ≡ f.now.n) }
+    ensures { fault_of result ≡ marks_fault f.now.n stretch optimum f.now.words.now g.now.words.now marks.now }
 {
-    let mut fine = true;
-    let mut v: usize = 0;
-    while v < n {
-        v += 1;
-        fine = limits::still_fine(fine, mark_fault(f, g, marks, n, stretch, optimum, v));
+    if limits::all_pass(f.n, |v| check_mark(f, g, marks, stretch, optimum, v)) {
+        return Ok(());
     }
-    if fine { 0 } else { 7 }
+    Err(Refusal::Trails)
 }
 
-// The crossing after v on its trail; 0 where v is the last.
-pub fn after(map: &[u32], half: &[u32], n: usize, side: Side, v: u32) -> u32
-    requires { Trails side map.now n half.now × Settled n half.now v }
-    ensures { result ≡ after_of side map.now n half.now v }
-{
-    let k = half[n + (v as usize - 1)] as usize;
-    if k == 0 {
-        return 0;
-    }
-    half::near(map, side, k)
+// The trails of a half that can be walked.
+#[derive(Clone, Copy)]
+pub struct Trails<'a> {
+    pub map: &'a [u32],
+    pub half: Half<'a>,
+    pub side: Side,
+    ghost walkable: { CanWalk side map.now half.n half.words.now },
 }
 
-// How many crossings the trail of x has.
-pub fn trail_length(map: &[u32], half: &[u32], n: usize, side: Side, x: u32) -> usize
-    requires { Trails side map.now n half.now × Settled n half.now x }
-    ensures { result ≡ length (trail side map.now n half.now x) }
-{
-    let mut count: usize = 0;
-    let mut y = x;
-    while y != 0 {
-        count += 1;
-        y = after(map, half, n, side, y);
+impl<'a> Trails<'a> {
+    // The crossing after v on its trail.
+    #[tactic(auto, unfolding(crate::specs::Trail::after))]
+    pub fn after(&self, v: u32) -> Option<u32>
+        requires { Settled self.now.half.n self.now.half.words.now v }
+        ensures crossing { or_zero result ≡ after_of self.now.side self.now.map.now self.now.half.n self.now.half.words.now v }
+        ensures settled { IfSome result (Settled self.now.half.n self.now.half.words.now) }
+    {
+        let k = self.half.entry(v as usize).link as usize;
+        if k == 0 {
+            return None;
+        }
+        Some(half::near(self.map, self.side, k))
     }
-    count
+
+    // How many crossings the trail of x has.
+    pub fn length(&self, x: u32) -> usize
+        requires { Settled self.now.half.n self.now.half.words.now x }
+        ensures { result ≡ length (trail self.now.side self.now.map.now self.now.half.n self.now.half.words.now x) }
+    {
+        let mut count = 0;
+        let mut at = Some(x);
+        while let Some(v) = at {
+            count += 1;
+            at = self.after(v);
+        }
+        count
+    }
 }
