@@ -1,9 +1,8 @@
--- Laws of a choice, of folds over 1 to k and of sums: the steps of a loop, what a fold keeps, and one more at one place. Assumes nothing.
+-- Laws of folds over 1 to k and of sums: the step of a loop, what a fold keeps, and one more at one place. Assumes nothing.
 use mathlib.Core.Path.{◌≡◌, refl, subst}
 use mathlib.Core.Logic.{◌≢◌, ◌⊎◌, inl, inr, ⊎_elim}
-use Prim.Native.Nat.{ℕ, zero, suc, ◌+◌, ◌≤◌}
+use Prim.Native.Nat.{ℕ, zero, suc, ◌-◌, ◌≤◌}
 use native.Mathlib.Omega.{arith}
-use native.Mathlib.Numerals.{add-one}
 use native.Mathlib.Nat.{le-suc_iff}
 use Rattle.limits.specs.Limits.{Between}
 use Rattle.half.specs.Fold.{up_to, tally}
@@ -11,13 +10,11 @@ use Rattle.half.specs.Fold.{up_to, tally}
 -- ---- folds
 
 module _ {ℓ} {A : Type ℓ} (f : ℕ → A → A) where
-  pub up_to_none : (a : A) → up_to f 0 a ≡ a
+  -- the step of a loop that has gone over the numbers below v
+  pub up_to_next : (j : ℕ) (a : A) (v : ℕ) {b c : A} → j ≡ v → 1 ≤ v → c ≡ f v b → b ≡ up_to f (v - 1) a → up_to f j a ≡ c
   unfolding up_to
-  up_to_none a = refl
-
-  pub up_to_more : (k : ℕ) (a : A) → up_to f (k + 1) a ≡ f (k + 1) (up_to f k a)
-  unfolding up_to
-  up_to_more k a = rw add-one
+  up_to_next j a zero i h p q = elim h [ ]
+  up_to_next j a (suc k) i h p q = let e : suc k - 1 ≡ k = omega arith in rw (i, p, q, e)
 
   -- what holds at the start and is kept by each step holds after k steps
   pub up_to_keeps {κ} : (P : ℕ → A → Type κ) (m : ℕ) {a : A} → P 0 a → ((k : ℕ) (x : A) → Between 1 m (suc k) → P k x → P (suc k) (f (suc k) x)) → P m (up_to f m a)

@@ -1,7 +1,6 @@
 pub mod Folds
 pub mod Entries
 pub mod Opening
-pub mod Laws
 pub mod Rule1
 pub mod Rule2
 pub mod Shape

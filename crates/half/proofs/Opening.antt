@@ -5,8 +5,9 @@ use mathlib.Core.List.{List, ◌++◌, append-nil}
 use Prim.Native.Nat.{ℕ, suc, ◌+◌, ◌-◌, ◌*◌, ◌≤◌, ◌<◌}
 use native.Mathlib.Omega.{arith}
 use native.Mathlib.Numerals.{add-one}
-use lib.ListN.{length, get_or, set, take, drop, replicate, length-append, length-replicate, get_or-replicate, get_or-append, drop_of_length-le}
-use lib.Seq.{get_or-append-add, drop-cons, take-suc, set_at, append_snoc, length-take-le, take_all}
+use borrow.Rule.Slice.PartMut.{put_mid}
+use lib.ListN.{length, get_or, set, take, drop, replicate, length-append, length-replicate, length-take, length-drop, get_or-replicate, get_or-append, drop_of_length-le}
+use lib.Seq.{take_at, drop_at, get_or-append-add, drop-cons, take-suc, set_at, append_snoc, length-take-le, take_all}
 use Rattle.limits.specs.Limits.{Between}
 use Rattle.half.specs.Half.{unknown, dist, link, state, entry, blank, open_half}
 use Rattle.half.proofs.Entries.{put_length, put_same, put_other}
@@ -30,6 +31,20 @@ module _ (n : ℕ) where
       ap (λ (j : ℕ). get_or (replicate n unknown ++ replicate (2 * n) 0) j 0) e
       ∙ get_or-append-add (replicate n unknown) (replicate (2 * n) 0) (i - n) 0
       ∙ get_or-replicate (2 * n) (i - n) 0 0 (omega arith)
+
+  -- the first n words are filled, then those after them
+  pub blank_by : (h : List ℕ) {p q : List ℕ} → length h ≡ 3 * n → p ≡ replicate (length (take n h)) unknown
+      → q ≡ replicate (length (take (length (p ++ drop n h) - n) (drop n (p ++ drop n h)))) 0
+      → put_mid n (length (p ++ drop n h) - n) (p ++ drop n h) q ≡ blank n
+  unfolding blank
+  blank_by h {p} {q} room e f =
+      let z : length (take n h) ≡ n = simp length-take (omega arith) in
+      let p_is : p ≡ replicate n unknown = e ∙ ap (λ (k : ℕ). replicate k unknown) z in
+      let lp : length p ≡ n = rw p_is (length-replicate n unknown) in
+      let l : length (p ++ drop n h) - n ≡ 2 * n = simp (length-append, length-drop) (omega arith) in
+      let y : length (take (length (p ++ drop n h) - n) (drop n (p ++ drop n h))) ≡ 2 * n = simp (length-take, length-drop, length-append) (omega arith) in
+      let le : length (drop n h) ≤ 2 * n = simp length-drop (omega arith) in
+      rw (l, take_at p (drop n h) n lp, drop_at p (drop n h) n lp, drop_of_length-le (drop n h) le, append-nil, p_is, f, y)
 
 -- ---- words of s written over those of h, from the first on
 

@@ -1,5 +1,5 @@
 -- Rule 1: what the nearest open crossing is. Assumes nothing.
-use mathlib.Core.Path.{◌≡◌, refl, ◌∙◌}
+use mathlib.Core.Path.{◌≡◌, refl}
 use mathlib.Core.Bool.{Bool, true, false, cond, ◌&&◌, ◌||◌}
 use mathlib.Core.Logic.{◌≢◌, ⊎_elim}
 use mathlib.Core.List.{List}
@@ -63,7 +63,3 @@ module _ {n : ℕ} {h : List ℕ} {b : ℕ} where
   pub nearest_first : Nearest n h n b → b ≢ 0 → First n h n b
   nearest_first (nothing e f) ne = absurd (ne e)
   nearest_first (found r) ne = r
-
--- a crossing that is found is one of the half's
-pub found_in : (n : ℕ) (h : List ℕ) {v : ℕ} → v ≡ nearest_open n h → v ≢ 0 → Between 1 n v
-found_in n h e ne = rw e (nearest_first (nearest_open_lem n h) (λ q. ne (e ∙ q))).inside

@@ -1,11 +1,6 @@
--- `half::relax` meets its contract. Assumes nothing.
-use Rattle.map.specs.Map.{cost}
-use Rattle.half.proofs.Laws.{relaxed_off, relaxed_on}
+-- `half::relax` meets its contract: the link comes to a crossing of the map. Assumes nothing.
+use Rattle.map.proofs.Walks.{far_in}
 use Rattle.half.proofs.relax.Goals as goal
 
-pub returns-then-near-x : goal.returns-then-near-x
-returns-then-near-x c = relaxed_off _ _ _ _ _ _ _ c.near.ensures c.if-near-x.true
-
-pub returns : goal.returns
-unfolding cost
-returns c = relaxed_on _ _ _ _ _ _ _ c.near.ensures c.if-near-x.false c.far-v.ensures c.reach.ensures
+pub reach-requires : goal.reach-requires
+reach-requires c = (rw c.far-v.ensures (far_in c.args.roads.now.valid _ c.args.k c.requires.0), c.requires.1)
