@@ -1,9 +1,9 @@
-// What the programs share that run rows of numbers: reading the rows and a row's numbers, and printing.
+// What the programs share: reading an input, and for rows of numbers their numbers and the printing of numbers.
 #![tactic(auto)]
 
 ghost use Rattle.std.specs.Prelude.{◌≤◌, length};
 
-use number::Number;
+use std::fmt::Display;
 use std::io;
 use std::io::{Read, Write};
 
@@ -13,13 +13,10 @@ pub fn read_full<R: Read>(input: &mut R, buffer: &mut [u8]) -> usize
 {
     let mut done = 0;
     while done < buffer.len() {
-        let Ok(n) = input.read(&mut buffer[done..]) else {
-            break;
-        };
-        if n == 0 {
-            break;
+        match input.read(&mut buffer[done..]) {
+            Ok(n) if 0 < n => done += n,
+            _ => break,
         }
-        done += n;
     }
     done
 }
@@ -29,38 +26,23 @@ pub fn numbers(row: &[u8], from: usize, words: &mut [u32]) -> usize
     ensures { result ≤ length words.old }
 {
     let mut at = from;
-    let mut k = 0;
-    while k < words.len() {
-        match number::number_at(row, at) {
-            Number::Bad(_) => {
-                return k;
-            }
-            Number::Good(v, next) => {
-                words[k] = v;
-                k += 1;
-                if row.len() <= next {
-                    return k;
-                }
-                at = next + 1;
-            }
+    for (k, word) in words.iter_mut().enumerate() {
+        let Ok(number) = number::number_at(row, at) else {
+            return k;
+        };
+        *word = number.value;
+        if row.len() <= number.next {
+            return k + 1;
         }
+        at = number.next + 1;
     }
-    k
+    words.len()
 }
 
-pub fn print<W: Write>(out: &mut W, what: &[u8]) -> io::Result<()> {
-    out.write_all(what)
-}
-
-pub fn print_number<W: Write>(out: &mut W, x: u32) -> io::Result<()> {
-    write!(out, " {x}")
-}
-
-pub fn print_words<W: Write>(out: &mut W, words: &[u32]) -> io::Result<()> {
-    let mut i = 0;
-    while i < words.len() {
-        print_number(out, words[i])?;
-        i += 1;
+// Writes each number behind a space.
+pub fn print_numbers<W: Write, T: Display>(out: &mut W, numbers: &[T]) -> io::Result<()> {
+    for x in numbers {
+        write!(out, " {x}")?;
     }
     Ok(())
 }
