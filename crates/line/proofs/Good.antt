@@ -9,18 +9,19 @@ use borrow.Author.Tests.{le-ltb, lt-ltb, eq-eqb, ltb-false, eqb-true}
 use lib.Dec.{T, T_not, ltb, eqb, lit<}
 use lib.ListN.{length, get_or, drop, length-append, drop_of_length-le}
 use lib.Seq.{get_or-append_seam}
+use Rattle.std.specs.Prelude.{Result, Ok, Err}
 use Rattle.limits.specs.Limits.{Between}
 use Rattle.limits.proofs.Cases.{cond_both, cond_then, cond_else}
-use Rattle.number.specs.Number.{digit_of}
-use Rattle.line.specs.Line.{number_then, field_at, field_of, agree_from, agree_of, size_word, link_word, comment_of, size_of, link_of, line_of}
+use Rattle.number.specs.Number.{good, digit_of}
+use Rattle.line.specs.Line.{as_comment, as_size, as_link, strange, wrong, number_then, field_at, field_of, agree_from, agree_of, size_word, link_word, comment_of, size_of, link_of, line_of}
 use Rattle.line.specs.Good.{All, none, more, NoLf, Spells, CommentLine, alone, spaced, SizeLine, LinkLine}
 use Rattle.line.proofs.Lines.{Cut, Whole}
 use Rattle.line.proofs.Spelling.{FieldAt, field_spelled, spelled_field, behind_field}
 use Rattle.number.specs.declared.Number.{Number}
-use Rattle.number.specs.declared.Number.TheVariants.{Good, Bad}
+use Rattle.number.specs.declared.Misplaced.{Misplaced}
 use Rattle.line.specs.declared.Field.{Field}
 use Rattle.line.specs.declared.Line.{Line}
-use Rattle.line.specs.declared.Line.TheVariants.{Comment, Size, Link, Strange, Wrong}
+use Rattle.line.specs.declared.NoLine.{NoLine}
 
 -- ---- the word that a line begins with
 
@@ -42,15 +43,15 @@ word_agree i (y ∷ ys) rest = rw (eq-eqb y y refl) (word_agree (i + 1) ys rest 
 
 -- ---- what a number must have been
 
-record Then {A : Type 0} (x : Number) (k : ℕ → ℕ → A) (r : A) : Type 0 where
+record Then {A : Type 0} (x : Result Number Misplaced) (k : ℕ → ℕ → A) (r : A) : Type 0 where
   v : ℕ
   next : ℕ
-  is : x ≡ Good v next
+  is : x ≡ good v next
   gives : k v next ≡ r
 
-then_good : {A : Type 0} (x : Number) (k : ℕ → ℕ → A) (f : ℕ → A) (r : A) → number_then x k f ≡ r → ((p : ℕ) → f p ≡ r → ⊥) → Then x k r
-then_good (Good v next) k f r e n = record { v = v; next = next; is = refl; gives = e }
-then_good (Bad p) k f r e n = absurd (n p e)
+then_good : {A : Type 0} (x : Result Number Misplaced) (k : ℕ → ℕ → A) (f : ℕ → A) (r : A) → number_then x k f ≡ r → ((p : ℕ) → f p ≡ r → ⊥) → Then x k r
+then_good (Ok n) k f r e bads = record { v = n.value; next = n.next; is = refl; gives = e }
+then_good (Err m) k f r e bads = absurd (bads m.at e)
 
 -- a field that LF ends is the last
 last_field : (l : List ℕ) {at v next : ℕ} → Cut l → FieldAt l at 10 v next → drop next l ≡ []
@@ -62,21 +63,21 @@ last_field l {at} {v} {next} cut f = go (dec_le (length l) next)
 
 -- ---- sizes
 
-size_fields : {a b n m : Field} → Size a b ≡ Size n m → (a.value ≡ n.value) × (b.value ≡ m.value)
+size_fields : {a b n m : Field} → as_size a b ≡ as_size n m → (a.value ≡ n.value) × (b.value ≡ m.value)
 size_fields e = (cc, cc)
 
-strange_size : {p : ℕ} {n m : Field} → Strange p ≡ Size n m → ⊥
+strange_size : {p : ℕ} {n m : Field} → strange p ≡ as_size n m → ⊥
 strange_size e = let z : ◌≡◌ {A = ℕ} 0 1 = cc in omega arith
 
-wrong_size : {n m : Field} (p : ℕ) → Wrong p ≡ Size n m → ⊥
+wrong_size : {n m : Field} (p : ℕ) → wrong p ≡ as_size n m → ⊥
 wrong_size p e = let z : ◌≡◌ {A = ℕ} 0 1 = cc in omega arith
 
-size_line : (l : List ℕ) {n m : Field} → Cut l → size_of l ≡ Size n m → SizeLine l n.value m.value
+size_line : (l : List ℕ) {n m : Field} → Cut l → size_of l ≡ as_size n m → SizeLine l n.value m.value
 unfolding size_of
 size_line l {n} {m} cut e =
     let a = cond_else (ltb (agree_of l size_word) 5) e strange_size in
-    let x = then_good (field_at l 5 32) _ Wrong (Size n m) a.1 wrong_size in
-    let y = then_good (field_at l x.next 10) _ Wrong (Size n m) x.gives wrong_size in
+    let x = then_good (field_at l 5 32) _ wrong (as_size n m) a.1 wrong_size in
+    let y = then_good (field_at l x.next 10) _ wrong (as_size n m) x.gives wrong_size in
     let f = field_spelled l 5 32 x.v x.next x.is in
     let g = field_spelled l x.next 10 y.v y.next y.is in
     let values = size_fields y.gives in
@@ -92,7 +93,7 @@ size_line l {n} {m} cut e =
 pub size_place : {l : List ℕ} {n m : ℕ} → SizeLine l n m → ℕ
 size_place s = 5 + length s.ns + 1
 
-line_size : {l : List ℕ} {n m : ℕ} (s : SizeLine l n m) → size_of l ≡ Size (field_of n 5) (field_of m (size_place s))
+line_size : {l : List ℕ} {n m : ℕ} (s : SizeLine l n m) → size_of l ≡ as_size (field_of n 5) (field_of m (size_place s))
 unfolding size_of size_place digit_of
 line_size {l} {n} {m} s =
     let rest = s.ms ++ 10 ∷ [] in
@@ -105,22 +106,22 @@ line_size {l} {n} {m} s =
 
 -- ---- a link
 
-link_fields : {a b c u v w : Field} → Link a b c ≡ Link u v w → (a.value ≡ u.value) × (b.value ≡ v.value) × (c.value ≡ w.value)
+link_fields : {a b c u v w : Field} → as_link a b c ≡ as_link u v w → (a.value ≡ u.value) × (b.value ≡ v.value) × (c.value ≡ w.value)
 link_fields e = (cc, cc, cc)
 
-strange_link : {p : ℕ} {u v w : Field} → Strange p ≡ Link u v w → ⊥
+strange_link : {p : ℕ} {u v w : Field} → strange p ≡ as_link u v w → ⊥
 strange_link e = let z : ◌≡◌ {A = ℕ} 0 1 = cc in omega arith
 
-wrong_link : {u v w : Field} (p : ℕ) → Wrong p ≡ Link u v w → ⊥
+wrong_link : {u v w : Field} (p : ℕ) → wrong p ≡ as_link u v w → ⊥
 wrong_link p e = let z : ◌≡◌ {A = ℕ} 0 1 = cc in omega arith
 
-link_line : (l : List ℕ) {u v w : Field} → Cut l → link_of l ≡ Link u v w → LinkLine l u.value v.value w.value
+link_line : (l : List ℕ) {u v w : Field} → Cut l → link_of l ≡ as_link u v w → LinkLine l u.value v.value w.value
 unfolding link_of
 link_line l {u} {v} {w} cut e =
     let a = cond_else (ltb (agree_of l link_word) 2) e strange_link in
-    let x = then_good (field_at l 2 32) _ Wrong (Link u v w) a.1 wrong_link in
-    let y = then_good (field_at l x.next 32) _ Wrong (Link u v w) x.gives wrong_link in
-    let z = then_good (field_at l y.next 10) _ Wrong (Link u v w) y.gives wrong_link in
+    let x = then_good (field_at l 2 32) _ wrong (as_link u v w) a.1 wrong_link in
+    let y = then_good (field_at l x.next 32) _ wrong (as_link u v w) x.gives wrong_link in
+    let z = then_good (field_at l y.next 10) _ wrong (as_link u v w) y.gives wrong_link in
     let f = field_spelled l 2 32 x.v x.next x.is in
     let g = field_spelled l x.next 32 y.v y.next y.is in
     let h = field_spelled l y.next 10 z.v z.next z.is in
@@ -142,7 +143,7 @@ second_place s = 2 + length s.us + 1
 pub third_place : {l : List ℕ} {u v w : ℕ} → LinkLine l u v w → ℕ
 third_place s = 2 + length s.us + 1 + length s.vs + 1
 
-line_link : {l : List ℕ} {u v w : ℕ} (s : LinkLine l u v w) → link_of l ≡ Link (field_of u 2) (field_of v (second_place s)) (field_of w (third_place s))
+line_link : {l : List ℕ} {u v w : ℕ} (s : LinkLine l u v w) → link_of l ≡ as_link (field_of u 2) (field_of v (second_place s)) (field_of w (third_place s))
 unfolding link_of second_place third_place digit_of
 line_link {l} {u} {v} {w} s =
     let last = s.ws ++ 10 ∷ [] in
@@ -166,13 +167,13 @@ ended x (y ∷ ys) cut e =
     let r = ended y ys (λ i g. cut (suc i) (omega arith)) e in
     record { xs = x ∷ r.xs; plain = more (cut 0 (omega arith)) r.plain; is = ap (λ (z : List ℕ). x ∷ z) r.is }
 
-strange_comment : {p : ℕ} → Strange p ≡ Comment → ⊥
+strange_comment : {p : ℕ} → strange p ≡ as_comment → ⊥
 strange_comment e = let z : ◌≡◌ {A = ℕ} 0 1 = cc in omega arith
 
-wrong_comment : {p : ℕ} → Wrong p ≡ Comment → ⊥
+wrong_comment : {p : ℕ} → wrong p ≡ as_comment → ⊥
 wrong_comment e = let z : ◌≡◌ {A = ℕ} 0 1 = cc in omega arith
 
-comment_line : (l : List ℕ) → Cut l → get_or l 0 0 ≡ 99 → comment_of l ≡ Comment → CommentLine l
+comment_line : (l : List ℕ) → Cut l → get_or l 0 0 ≡ 99 → comment_of l ≡ as_comment → CommentLine l
 unfolding comment_of
 comment_line [] cut f e = absurd (wrong_comment e)
 comment_line (a ∷ []) cut f e = absurd (wrong_comment e)
@@ -181,7 +182,7 @@ comment_line (a ∷ b ∷ r) cut f e = go (eqb b 10) refl long.1
     l : List ℕ
     l = a ∷ b ∷ r
 
-    long : (ltb (length l) 2 ≡ false) × (cond (eqb b 10) Comment (cond (eqb b 32) (cond (eqb (get_or l (length l - 1) 0) 10) Comment (Wrong (length l))) (Strange 1)) ≡ Comment)
+    long : (ltb (length l) 2 ≡ false) × (cond (eqb b 10) as_comment (cond (eqb b 32) (cond (eqb (get_or l (length l - 1) 0) 10) as_comment (wrong (length l))) (strange 1)) ≡ as_comment)
     long = cond_else (ltb (length l) 2) e wrong_comment
 
     behind : (r : List ℕ) → Cut (a ∷ b ∷ r) → b ≡ 32 → get_or (a ∷ b ∷ r) (length (a ∷ b ∷ r) - 1) 0 ≡ 10 → CommentLine (a ∷ b ∷ r)
@@ -195,14 +196,14 @@ comment_line (a ∷ b ∷ r) cut f e = go (eqb b 10) refl long.1
     bare [] cut s = alone (ap₂ (λ (y z : ℕ). y ∷ z ∷ []) f s)
     bare (x ∷ xs) cut s = absurd (cut 1 (omega arith) s)
 
-    go : (t : Bool) → eqb b 10 ≡ t → cond t Comment (cond (eqb b 32) (cond (eqb (get_or l (length l - 1) 0) 10) Comment (Wrong (length l))) (Strange 1)) ≡ Comment → CommentLine l
+    go : (t : Bool) → eqb b 10 ≡ t → cond t as_comment (cond (eqb b 32) (cond (eqb (get_or l (length l - 1) 0) 10) as_comment (wrong (length l))) (strange 1)) ≡ as_comment → CommentLine l
     go true q h = bare r cut (eqb-true b 10 q)
     go false q h =
         let s = cond_then (eqb b 32) h strange_comment in
         let t = cond_then (eqb (get_or l (length l - 1) 0) 10) s.1 wrong_comment in
         behind r cut (eqb-true b 32 s.0) (eqb-true _ _ t.0)
 
-line_comment : {l : List ℕ} → CommentLine l → comment_of l ≡ Comment
+line_comment : {l : List ℕ} → CommentLine l → comment_of l ≡ as_comment
 unfolding comment_of
 line_comment (alone e) = rw e
 line_comment (spaced xs h e) =
@@ -214,57 +215,57 @@ line_comment (spaced xs h e) =
 -- ---- the line as a whole
 
 -- what each kind of line can be read as
-module _ (P : Line → Type 0) (strange : (p : ℕ) → P (Strange p)) (wrong : (p : ℕ) → P (Wrong p)) (l : List ℕ) where
-  then_any : (x : Number) {k : ℕ → ℕ → Line} → ((v next : ℕ) → P (k v next)) → P (number_then x k Wrong)
-  then_any (Good v next) h = h v next
-  then_any (Bad p) h = wrong p
+module _ (P : Result Line NoLine → Type 0) (is_strange : (p : ℕ) → P (strange p)) (is_wrong : (p : ℕ) → P (wrong p)) (l : List ℕ) where
+  then_any : (x : Result Number Misplaced) {k : ℕ → ℕ → Result Line NoLine} → ((v next : ℕ) → P (k v next)) → P (number_then x k wrong)
+  then_any (Ok n) h = h n.value n.next
+  then_any (Err m) h = is_wrong m.at
 
-  comment_any : P Comment → P (comment_of l)
+  comment_any : P as_comment → P (comment_of l)
   unfolding comment_of
   comment_any c =
-      cond_both P (ltb (length l) 2) (wrong (length l))
+      cond_both P (ltb (length l) 2) (is_wrong (length l))
       (cond_both P (eqb (get_or l 1 0) 10) c
-      (cond_both P (eqb (get_or l 1 0) 32) (cond_both P (eqb (get_or l (length l - 1) 0) 10) c (wrong (length l))) (strange 1)))
+      (cond_both P (eqb (get_or l 1 0) 32) (cond_both P (eqb (get_or l (length l - 1) 0) 10) c (is_wrong (length l))) (is_strange 1)))
 
-  size_any : ((n m : Field) → P (Size n m)) → P (size_of l)
+  size_any : ((n m : Field) → P (as_size n m)) → P (size_of l)
   unfolding size_of
   size_any c =
-      cond_both P (ltb (agree_of l size_word) 5) (strange (agree_of l size_word))
+      cond_both P (ltb (agree_of l size_word) 5) (is_strange (agree_of l size_word))
       (then_any (field_at l 5 32) (λ n m_at. then_any (field_at l m_at 10) (λ m end. c (field_of n 5) (field_of m m_at))))
 
-  link_any : ((u v w : Field) → P (Link u v w)) → P (link_of l)
+  link_any : ((u v w : Field) → P (as_link u v w)) → P (link_of l)
   unfolding link_of
   link_any c =
-      cond_both P (ltb (agree_of l link_word) 2) (strange (agree_of l link_word))
+      cond_both P (ltb (agree_of l link_word) 2) (is_strange (agree_of l link_word))
       (then_any (field_at l 2 32) (λ u v_at. then_any (field_at l v_at 32) (λ v w_at. then_any (field_at l w_at 10) (λ w end. c (field_of u 2) (field_of v v_at) (field_of w w_at)))))
 
 module _ (l : List ℕ) (cut : Cut l) where
   -- the three choices by the first byte, where the first or the last two cannot have been taken
-  some : {x : Line} → line_of l ≡ x → ((p : ℕ) → Strange p ≡ x → ⊥)
-      → cond (eqb (get_or l 0 0) 99) (comment_of l) (cond (eqb (get_or l 0 0) 112) (size_of l) (cond (eqb (get_or l 0 0) 97) (link_of l) (Strange 0))) ≡ x
+  some : {x : Result Line NoLine} → line_of l ≡ x → ((p : ℕ) → strange p ≡ x → ⊥)
+      → cond (eqb (get_or l 0 0) 99) (comment_of l) (cond (eqb (get_or l 0 0) 112) (size_of l) (cond (eqb (get_or l 0 0) 97) (link_of l) (strange 0))) ≡ x
   unfolding line_of
   some e n = (cond_then (ltb 0 (length l)) e (n 0)).1
 
-  pub read_comment : line_of l ≡ Comment → CommentLine l
+  pub read_comment : line_of l ≡ as_comment → CommentLine l
   read_comment e =
-      let P : Line → Type 0 = λ x. x ≡ Comment → ⊥ in
+      let P : Result Line NoLine → Type 0 = λ x. x ≡ as_comment → ⊥ in
       let size = size_any P (λ p. strange_comment) (λ p. wrong_comment) l (λ n m q. let z : ◌≡◌ {A = ℕ} 0 1 = cc in omega arith) in
       let link = link_any P (λ p. strange_comment) (λ p. wrong_comment) l (λ u v w q. let z : ◌≡◌ {A = ℕ} 0 1 = cc in omega arith) in
       let c = cond_then (eqb (get_or l 0 0) 99) (some e (λ p. strange_comment)) (cond_both P (eqb (get_or l 0 0) 112) size (cond_both P (eqb (get_or l 0 0) 97) link strange_comment)) in
       comment_line l cut (eqb-true _ _ c.0) c.1
 
-  pub read_size : {n m : Field} → line_of l ≡ Size n m → SizeLine l n.value m.value
+  pub read_size : {n m : Field} → line_of l ≡ as_size n m → SizeLine l n.value m.value
   read_size {n} {m} e =
-      let P : Line → Type 0 = λ x. x ≡ Size n m → ⊥ in
+      let P : Result Line NoLine → Type 0 = λ x. x ≡ as_size n m → ⊥ in
       let comment = comment_any P (λ p. strange_size) wrong_size l (λ q. let z : ◌≡◌ {A = ℕ} 0 1 = cc in omega arith) in
       let link = link_any P (λ p. strange_size) wrong_size l (λ u v w q. let z : ◌≡◌ {A = ℕ} 0 1 = cc in omega arith) in
       let c = cond_else (eqb (get_or l 0 0) 99) (some e (λ p. strange_size)) comment in
       let d = cond_then (eqb (get_or l 0 0) 112) c.1 (cond_both P (eqb (get_or l 0 0) 97) link strange_size) in
       size_line l cut d.1
 
-  pub read_link : {u v w : Field} → line_of l ≡ Link u v w → LinkLine l u.value v.value w.value
+  pub read_link : {u v w : Field} → line_of l ≡ as_link u v w → LinkLine l u.value v.value w.value
   read_link {u} {v} {w} e =
-      let P : Line → Type 0 = λ x. x ≡ Link u v w → ⊥ in
+      let P : Result Line NoLine → Type 0 = λ x. x ≡ as_link u v w → ⊥ in
       let comment = comment_any P (λ p. strange_link) wrong_link l (λ q. let z : ◌≡◌ {A = ℕ} 0 1 = cc in omega arith) in
       let size = size_any P (λ p. strange_link) wrong_link l (λ n m q. let z : ◌≡◌ {A = ℕ} 0 1 = cc in omega arith) in
       let c = cond_else (eqb (get_or l 0 0) 99) (some e (λ p. strange_link)) comment in
@@ -272,24 +273,24 @@ module _ (l : List ℕ) (cut : Cut l) where
       link_line l cut (cond_then (eqb (get_or l 0 0) 97) d.1 strange_link).1
 
 -- a line that begins with a byte
-begins : (l rest : List ℕ) (b : ℕ) → l ≡ b ∷ rest → line_of l ≡ cond (eqb b 99) (comment_of l) (cond (eqb b 112) (size_of l) (cond (eqb b 97) (link_of l) (Strange 0)))
+begins : (l rest : List ℕ) (b : ℕ) → l ≡ b ∷ rest → line_of l ≡ cond (eqb b 99) (comment_of l) (cond (eqb b 112) (size_of l) (cond (eqb b 97) (link_of l) (strange 0)))
 unfolding line_of
 begins l rest b e =
     let some : 0 < length l = omega (arith, ap length e) in
     let first : get_or l 0 0 ≡ b = ap (λ (z : List ℕ). get_or z 0 0) e in
     rw (lt-ltb 0 (length l) some, first)
 
-pub comment_read : {l : List ℕ} → CommentLine l → line_of l ≡ Comment
+pub comment_read : {l : List ℕ} → CommentLine l → line_of l ≡ as_comment
 comment_read {l} c = go c
   where
-    go : CommentLine l → line_of l ≡ Comment
+    go : CommentLine l → line_of l ≡ as_comment
     go (alone e) = begins l (10 ∷ []) 99 e ∙ line_comment c
     go (spaced xs h e) = begins l (32 ∷ (xs ++ 10 ∷ [])) 99 e ∙ line_comment c
 
-pub size_read : {l : List ℕ} {n m : ℕ} (s : SizeLine l n m) → line_of l ≡ Size (field_of n 5) (field_of m (size_place s))
+pub size_read : {l : List ℕ} {n m : ℕ} (s : SizeLine l n m) → line_of l ≡ as_size (field_of n 5) (field_of m (size_place s))
 size_read {l} s = begins l _ 112 s.bytes ∙ line_size s
 
-pub link_read : {l : List ℕ} {u v w : ℕ} (s : LinkLine l u v w) → line_of l ≡ Link (field_of u 2) (field_of v (second_place s)) (field_of w (third_place s))
+pub link_read : {l : List ℕ} {u v w : ℕ} (s : LinkLine l u v w) → line_of l ≡ as_link (field_of u 2) (field_of v (second_place s)) (field_of w (third_place s))
 link_read {l} s = begins l _ 97 s.bytes ∙ line_link s
 
 -- ---- a good line has its LF, and no other

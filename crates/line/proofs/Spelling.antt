@@ -11,13 +11,14 @@ use borrow.Author.Tests.{lt-ltb, le-ltb, eq-eqb, ne_eqb, ltb-true, ltb-false, eq
 use lib.Dec.{ltb, eqb}
 use lib.ListN.{length, get_or, drop, length-append, length-drop}
 use lib.Seq.{drop-append_seam, drop-append-add, drop-drop, drop-cons, get_or-drop, get_or-append_seam}
+use Rattle.std.specs.Prelude.{Result, Ok, Err}
 use Rattle.limits.specs.Limits.{Between}
 use Rattle.limits.proofs.Cases.{cond_then, cond_else}
-use Rattle.number.specs.Number.{digit_of, grow, begin, number_at}
+use Rattle.number.specs.Number.{good, bad, digit_of, grow, begin, number_at}
 use Rattle.line.specs.Line.{number_then, stop_at, field_at}
 use Rattle.line.specs.Good.{All, none, more, worth_from, Spells}
 use Rattle.number.specs.declared.Number.{Number}
-use Rattle.number.specs.declared.Number.TheVariants.{Good, Bad}
+use Rattle.number.specs.declared.Misplaced.{Misplaced}
 
 -- ---- digits
 
@@ -62,10 +63,12 @@ worth_few v ds a h = go (dec_le (length ds) 9)
 
 -- ---- from the reading to the spelling
 
-good_value : {v w p q : ℕ} → Good v p ≡ Good w q → (v ≡ w) × (p ≡ q)
-good_value e = (cc, cc)
+good_value : {v w p q : ℕ} → good v p ≡ good w q → (v ≡ w) × (p ≡ q)
+good_value {v} {w} {p} {q} e =
+    let n : ◌≡◌ {A = Number} (record { value = v; next = p }) (record { value = w; next = q }) = cc in
+    (ap (λ (x : Number). x.value) n, ap (λ (x : Number). x.next) n)
 
-never_good : {p v q : ℕ} → Bad p ≡ Good v q → ⊥
+never_good : {p v q : ℕ} → bad p ≡ good v q → ⊥
 never_good e = let z : ◌≡◌ {A = ℕ} 0 1 = cc in omega arith
 
 record Grown (v at : ℕ) (bs : List ℕ) (w next : ℕ) : Type 0 where
@@ -78,7 +81,7 @@ record Grown (v at : ℕ) (bs : List ℕ) (w next : ℕ) : Type 0 where
   lone : v ≡ 0 → length ds ≡ 0
   most : v ≤ 4294967295 → w ≤ 4294967295
 
-grown : (v at : ℕ) (bs : List ℕ) (w next : ℕ) → grow v at bs ≡ Good w next → Grown v at bs w next
+grown : (v at : ℕ) (bs : List ℕ) (w next : ℕ) → grow v at bs ≡ good w next → Grown v at bs w next
 unfolding grow worth_from
 grown v at [] w next e =
     let g = good_value e in
@@ -86,8 +89,8 @@ grown v at [] w next e =
 grown v at (b ∷ bs) w next e = go (ltb 9 (digit_of b)) refl e (grown (v * 10 + digit_of b) (at + 1) bs w next)
   where
     go : (t : Bool) → ltb 9 (digit_of b) ≡ t
-        → cond t (Good v at) (cond (eqb v 0) (Bad at) (cond (ltb 4294967295 (v * 10 + digit_of b)) (Bad at) (grow (v * 10 + digit_of b) (at + 1) bs))) ≡ Good w next
-        → (grow (v * 10 + digit_of b) (at + 1) bs ≡ Good w next → Grown (v * 10 + digit_of b) (at + 1) bs w next)
+        → cond t (good v at) (cond (eqb v 0) (bad at) (cond (ltb 4294967295 (v * 10 + digit_of b)) (bad at) (grow (v * 10 + digit_of b) (at + 1) bs))) ≡ good w next
+        → (grow (v * 10 + digit_of b) (at + 1) bs ≡ good w next → Grown (v * 10 + digit_of b) (at + 1) bs w next)
         → Grown v at (b ∷ bs) w next
     go true t f rest =
         let g = good_value f in
@@ -124,7 +127,7 @@ record Read (s : List ℕ) (at v next : ℕ) : Type 0 where
   place : next ≡ at + length ds
   spells : Spells ds v
 
-begun : (at : ℕ) (bs : List ℕ) (v next : ℕ) → begin at bs ≡ Good v next → (s : List ℕ) → drop at s ≡ bs → Read s at v next
+begun : (at : ℕ) (bs : List ℕ) (v next : ℕ) → begin at bs ≡ good v next → (s : List ℕ) → drop at s ≡ bs → Read s at v next
 unfolding begin worth_from
 begun at [] v next e s q = absurd (never_good e)
 begun at (b ∷ bs) v next e s q =
@@ -148,16 +151,16 @@ begun at (b ∷ bs) v next e s q =
       };
     }
 
-read_spelled : (s : List ℕ) (at v next : ℕ) → number_at s at ≡ Good v next → Read s at v next
+read_spelled : (s : List ℕ) (at v next : ℕ) → number_at s at ≡ good v next → Read s at v next
 unfolding number_at
 read_spelled s at v next e = begun at (drop at s) v next e s refl
 
 -- ---- from the spelling to the reading
 
 spelled_grow : (v at : ℕ) (ds : List ℕ) (stop : ℕ) (rest : List ℕ) → All (Between 48 57) ds → (v ≡ 0 → length ds ≡ 0) → worth_from v ds ≤ 4294967295 → 9 < digit_of stop
-    → grow v at (ds ++ stop ∷ rest) ≡ Good (worth_from v ds) (at + length ds)
+    → grow v at (ds ++ stop ∷ rest) ≡ good (worth_from v ds) (at + length ds)
 unfolding grow worth_from
-spelled_grow v at [] stop rest none z h n = rw (lt-ltb 9 (digit_of stop)) (ap (Good v) (omega arith))
+spelled_grow v at [] stop rest none z h n = rw (lt-ltb 9 (digit_of stop)) (ap (good v) (omega arith))
 spelled_grow v at (d ∷ ds) stop rest (more i is) z h n =
     let e : digit_of d ≡ d - 48 = digit_worth d i in
     let small : digit_of d ≤ 9 = omega (arith, e, i.most) in
@@ -166,15 +169,15 @@ spelled_grow v at (d ∷ ds) stop rest (more i is) z h n =
     let next : v * 10 + digit_of d ≡ v * 10 + (d - 48) = omega (arith, e) in
     let place : at + 1 + length ds ≡ at + suc (length ds) = omega arith in
     rw (le-ltb 9 (digit_of d) small, ne_eqb v 0 some, le-ltb 4294967295 (v * 10 + digit_of d) fits, next)
-    (spelled_grow (v * 10 + (d - 48)) (at + 1) ds stop rest is (λ q. absurd (some (omega (arith, q)))) h n ∙ ap (Good (worth_from (v * 10 + (d - 48)) ds)) place)
+    (spelled_grow (v * 10 + (d - 48)) (at + 1) ds stop rest is (λ q. absurd (some (omega (arith, q)))) h n ∙ ap (good (worth_from (v * 10 + (d - 48)) ds)) place)
 
 -- digits that begin, with a byte behind them that is none
-spelled_begin : (at : ℕ) (ds : List ℕ) (v stop : ℕ) (rest : List ℕ) → Spells ds v → 9 < digit_of stop → begin at (ds ++ stop ∷ rest) ≡ Good v (at + length ds)
+spelled_begin : (at : ℕ) (ds : List ℕ) (v stop : ℕ) (rest : List ℕ) → Spells ds v → 9 < digit_of stop → begin at (ds ++ stop ∷ rest) ≡ good v (at + length ds)
 unfolding begin worth_from
 spelled_begin at [] v stop rest s n = absurd (omega (arith, s.count.least))
 spelled_begin at (d ∷ ds) v stop rest s n = go s.digits
   where
-    go : All (Between 48 57) (d ∷ ds) → begin at (d ∷ ds ++ stop ∷ rest) ≡ Good v (at + length (d ∷ ds))
+    go : All (Between 48 57) (d ∷ ds) → begin at (d ∷ ds ++ stop ∷ rest) ≡ good v (at + length (d ∷ ds))
     go (more i is) =
         let e = digit_worth d i in
         let small : digit_of d ≤ 9 = omega (arith, e, i.most) in
@@ -195,14 +198,16 @@ pub record FieldAt (l : List ℕ) (at stop v next : ℕ) : Type 0 where
   pub byte : get_or l (at + length ds) 0 ≡ stop
   pub within : next ≤ length l
 
-pub field_spelled : (l : List ℕ) (at stop v next : ℕ) → field_at l at stop ≡ Good v next → FieldAt l at stop v next
+pub field_spelled : (l : List ℕ) (at stop v next : ℕ) → field_at l at stop ≡ good v next → FieldAt l at stop v next
 unfolding field_at stop_at
 field_spelled l at stop v next = go (number_at l at) refl
   where
-    go : (x : Number) → number_at l at ≡ x → number_then x (λ w p. cond (ltb p (length l)) (cond (eqb (get_or l p 0) stop) (Good w (p + 1)) (Bad p)) (Bad p)) Bad ≡ Good v next
+    go : (x : Result Number Misplaced) → number_at l at ≡ x → number_then x (λ w p. cond (ltb p (length l)) (cond (eqb (get_or l p 0) stop) (good w (p + 1)) (bad p)) (bad p)) bad ≡ good v next
         → FieldAt l at stop v next
-    go (Bad p) q e = absurd (never_good e)
-    go (Good w p) q e =
+    go (Err m) q e = absurd (never_good e)
+    go (Ok k) q e =
+        let w = k.value in
+        let p = k.next in
         let inside = cond_then (ltb p (length l)) e never_good in
         let is = cond_then (eqb (get_or l p 0) stop) inside.1 never_good in
         let g = good_value is.1 in
@@ -221,14 +226,14 @@ field_spelled l at stop v next = go (number_at l at) refl
         }
 
 module _ (l : List ℕ) (at stop v : ℕ) (ds rest : List ℕ) (e : drop at l ≡ ds ++ stop ∷ rest) (s : Spells ds v) (n : 9 < digit_of stop) where
-  field_number : number_at l at ≡ Good v (at + length ds)
+  field_number : number_at l at ≡ good v (at + length ds)
   unfolding number_at
   field_number = rw e (spelled_begin at ds v stop rest s n)
 
   field_size : length l - at ≡ length ds + suc (length rest)
   field_size = sym (length-drop at l) ∙ ap length e ∙ length-append ds (stop ∷ rest)
 
-  pub spelled_field : field_at l at stop ≡ Good v (at + length ds + 1)
+  pub spelled_field : field_at l at stop ≡ good v (at + length ds + 1)
   unfolding field_at stop_at
   spelled_field =
       let h : at + length ds < length l = omega (arith, field_size) in
