@@ -3,143 +3,95 @@
 
 ghost use Rattle.std.specs.Prelude.{◌≡◌};
 ghost use Rattle.line.specs.Line.{line_of};
-ghost use Rattle.step.specs.Step.{first_of, size_fault, link_fault, step_by, size_step, link_step, taken};
+ghost use Rattle.step.specs.Step.{at_place, layout_at, faulted, size_step, link_step, taken};
 
-use line::{Field, Line};
+use limits::Refusal;
+use line::{Field, Line, NoLine};
 
-// What has been read: n and m, 0 before the `p` line, and how many links.
-#[derive(Clone, Copy)]
+// What has been read: n and m, and how many links. Before the `p` line they are 0, so that no link is due.
+#[derive(Clone, Copy, Debug, PartialEq, Eq)]
 pub struct State {
     pub n: u32,
     pub m: u32,
     pub k: u32,
 }
 
-// A number of refusal, 0 for none, and the place in the line of what is at fault.
-#[derive(Clone, Copy)]
+// A refusal, and the place in the line of what is at fault.
+#[derive(Clone, Copy, Debug, PartialEq, Eq)]
 pub struct Fault {
-    pub number: u32,
+    pub refusal: Refusal,
     pub place: usize,
 }
 
-// What a line does: the state after it, or its fault.
-#[derive(Clone, Copy)]
-pub enum Step {
-    Go(State),
-    Stop(Fault),
-}
+impl From<NoLine> for Fault {
+    ghost from_gives = { λ l f. f ≡ layout_at l };
 
-fn first_of(a: Fault, b: Fault) -> Fault
-    ensures { result ≡ first_of a b }
-{
-    if a.number == 0 { b } else { a }
-}
-
-// The ranges of N and M, then the room.
-fn size_fault(room: usize, n: Field, m: Field) -> Fault
-    ensures { result ≡ size_fault room n m }
-{
-    let crossings = Fault {
-        number: limits::n_fault(n.value),
-        place: n.place,
-    };
-    let links = Fault {
-        number: limits::m_fault(m.value),
-        place: m.place,
-    };
-    let space = Fault {
-        number: limits::room_fault(3 * (m.value as usize), room),
-        place: m.place,
-    };
-    first_of(crossings, first_of(links, space))
-}
-
-// The ends U and V, then the cost.
-fn link_fault(n: u32, u: Field, v: Field, w: Field) -> Fault
-    ensures { result ≡ link_fault n u v w }
-{
-    let tail = Fault {
-        number: limits::crossing_fault(n, u.value),
-        place: u.place,
-    };
-    let head = Fault {
-        number: limits::crossing_fault(n, v.value),
-        place: v.place,
-    };
-    let cost = Fault {
-        number: limits::cost_fault(w.value),
-        place: w.place,
-    };
-    first_of(tail, first_of(head, cost))
-}
-
-fn step_by(fault: Fault, next: State) -> Step
-    ensures { result ≡ step_by fault next }
-{
-    if fault.number == 0 {
-        return Step::Go(next);
+    fn from(none: NoLine) -> Fault {
+        match none {
+            NoLine::Strange(place) | NoLine::Wrong(place) => Fault {
+                refusal: Refusal::Layout,
+                place,
+            },
+        }
     }
-    Step::Stop(fault)
 }
 
-// A `p` line is the only one.
-fn size_step(room: usize, state: State, n: Field, m: Field) -> Step
-    ensures { result ≡ size_step room state n m }
+// A check of what stands at a place.
+fn at(place: usize, check: Result<(), Refusal>) -> Result<(), Fault>
+    ensures { result ≡ at_place place check }
+{
+    check.map_err(|refusal| Fault { refusal, place })
+}
+
+// A `p` line is the only one. The ranges of N and M, then the room.
+#[tactic(auto, using(crate::proofs::Chain::chain), unfolding(crate::specs::Step::size_step, crate::specs::Step::size_fault))]
+fn size_step(room: usize, state: State, n: Field, m: Field) -> Result<State, Fault>
+    ensures { faulted result ≡ size_step room state n m }
 {
     if state.n != 0 {
-        return Step::Stop(Fault {
-            number: 1,
+        return Err(Fault {
+            refusal: Refusal::Layout,
             place: 0,
         });
     }
-    let fault = size_fault(room, n, m);
-    step_by(
-        fault,
-        State {
-            n: n.value,
-            m: m.value,
-            k: 0,
-        },
-    )
+    at(n.place, limits::check_n(n.value))?;
+    at(m.place, limits::check_m(m.value))?;
+    at(m.place, limits::check_room(3 * (m.value as usize), room))?;
+    Ok(State {
+        n: n.value,
+        m: m.value,
+        k: 0,
+    })
 }
 
-// An `a` line is due: before the `p` line none is, nor beyond M.
-fn link_step(state: State, u: Field, v: Field, w: Field) -> Step
-    ensures { result ≡ link_step state u v w }
+// An `a` line is due: before the `p` line none is, nor beyond M. The ends U and V, then the cost.
+#[tactic(auto, using(crate::proofs::Chain::chain), unfolding(crate::specs::Step::link_step, crate::specs::Step::link_fault))]
+fn link_step(state: State, u: Field, v: Field, w: Field) -> Result<State, Fault>
+    ensures { faulted result ≡ link_step state u v w }
 {
     if state.m <= state.k {
-        return Step::Stop(Fault {
-            number: 1,
+        return Err(Fault {
+            refusal: Refusal::Layout,
             place: 0,
         });
     }
-    let fault = link_fault(state.n, u, v, w);
-    step_by(
-        fault,
-        State {
-            n: state.n,
-            m: state.m,
-            k: state.k + 1,
-        },
-    )
+    at(u.place, limits::check_crossing(state.n, u.value))?;
+    at(v.place, limits::check_crossing(state.n, v.value))?;
+    at(w.place, limits::check_cost(w.value))?;
+    Ok(State {
+        k: state.k + 1,
+        ..state
+    })
 }
 
-// What a line does, its LF included, where the map has room for so many words.
-pub fn take_line(bytes: &[u8], state: State, room: usize) -> Step
-    ensures { result ≡ taken room state (line_of bytes.now) }
+// What a line does, its LF included, where the map has room for so many words: the state after it, or its first fault.
+#[tactic(auto, unfolding(crate::specs::Step::taken))]
+pub fn take_line(bytes: &[u8], state: State, room: usize) -> Result<State, Fault>
+    ensures { faulted result ≡ taken room state (line_of bytes.now) }
 {
-    let what = line::read_line(bytes);
-    match what {
-        Line::Comment => Step::Go(state),
+    match line::read_line(bytes)? {
+        Line::Comment => Ok(state),
         Line::Size(n, m) => size_step(room, state, n, m),
         Line::Link(u, v, w) => link_step(state, u, v, w),
-        Line::Strange(p) => Step::Stop(Fault {
-            number: 1,
-            place: p,
-        }),
-        Line::Wrong(p) => Step::Stop(Fault {
-            number: 1,
-            place: p,
-        }),
     }
 }
