@@ -67,13 +67,13 @@ module _ (side : Side) (map : List ℕ) (n m x : ℕ) (y : List ℕ) (room : ben
   -- rule 2, then rule 3
   pub unmarked_by : {d goal optimum : ℕ} {y₁ : List ℕ} → WellShaped n m (parse n y) → d ≡ dist (half side (parse n y)) x
       → y₁ ≡ words settled → bench_words n ≤ length y₁
-      → goal ≡ root (other side) (parse n y₁) → optimum ≡ found goal x d (get_or y₁ 5 0)
+      → goal ≡ root (other side) (parse n y₁) → optimum ≡ found goal x d (parse n y₁).optimum
       → set y₁ 5 optimum ≡ words (unmarked side map x (parse n y))
-  unfolding unmarked parse
+  unfolding unmarked
   unmarked_by {d} {goal} {optimum} {y₁} shaped e e₁ room₁ g f =
       let b = parse n y in
       let p : parse n y₁ ≡ settled = parsed settled_room e₁ in
-      let q : get_or y₁ 5 0 ≡ b.optimum = ap (λ (c : Bench). c.optimum) p in
+      let q : (parse n y₁).optimum ≡ b.optimum = ap (λ (c : Bench). c.optimum) p in
       let r : goal ≡ root (other side) b = g ∙ ap (root (other side)) p ∙ root_with (other side) side _ b in
       let o : optimum ≡ found (root (other side) b) x (dist (half side b) x) b.optimum = cc in
       let h = ap₂ (λ (k l : ℕ). settled_at side map k l x (half side b)) (sym shaped.same_n) (sym shaped.same_m) in
