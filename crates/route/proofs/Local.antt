@@ -8,8 +8,9 @@ use native.Mathlib.Omega.{arith}
 use native.Mathlib.Decide.{ℕ_discrete}
 use lib.ListN.{length, get_or}
 use borrow.Author.Tests.{eq-eqb, le-leb, lt-leb}
+use Rattle.std.proofs.Common.{Option, Some, None, IfSome}
 use Rattle.map.specs.declared.Side.{Side}
-use Rattle.half.specs.Half.{dist}
+use Rattle.half.specs.Half.{or_zero, dist}
 use Rattle.trail.specs.Trail.{after, trail, Settled, Trails}
 use Rattle.trail.proofs.Walking.{trail_none, step_settled, step_nearer, step_trail}
 use Rattle.trail.proofs.Drives.{trail_no_farther}
@@ -53,6 +54,11 @@ module _ {side : Side} {map : List ℕ} {n : ℕ} {h : List ℕ} (walk : Trails 
   pub local_fails : (y : ℕ) → Settled n h y → dist h x - dist h y ≤ locality → {t : Bool} → t ≡ agrees_at n g y (dist h x - dist h y + dist g x) → t ≡ false → every (agrees n h g x) (tested locality h x (trail side map n h y)) ≡ false
   unfolding agrees
   local_fails y s le p q = local_step y s le refl ∙ rw (sym p ∙ q)
+
+-- what a step from q comes to, if anything, is no farther than x
+pub on_no_farther : {side : Side} {map : List ℕ} {n : ℕ} {h : List ℕ} → Trails side map n h → (x q : ℕ) → Settled n h q → dist h q ≤ dist h x → (at : Option ℕ) → or_zero at ≡ after side map n h q → IfSome at (Settled n h) → IfSome at (λ v. Settled n h v × (dist h v ≤ dist h x))
+on_no_farther walk x q s le (Some v) e t = (t, omega (arith, t.inside, le, step_nearer walk q s e))
+on_no_farther walk x q s le None e t = tt
 
 -- locality 0 tests x alone, which agrees with itself
 pub local_zero : {side : Side} {map : List ℕ} {n : ℕ} {h : List ℕ} → Trails side map n h → (g : List ℕ) (x : ℕ) → Settled n h x → Settled n g x → local_in side map n 0 h g x ≡ true

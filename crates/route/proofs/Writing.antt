@@ -7,6 +7,7 @@ use native.Mathlib.Numerals.{add-one}
 use native.Mathlib.Nat.{add-zero}
 use lib.ListN.{length, set, length-reverse}
 use lib.Seq.{sets, set_comm}
+use Rattle.limits.specs.Limits.{Between}
 use Rattle.shape.specs.Rules.{list_from}
 
 sets_last : (vs l : List ℕ) (i y : ℕ) → sets l i (vs ++ (y ∷ [])) ≡ sets (set l (i + length vs) y) i vs
@@ -27,14 +28,17 @@ back_step l {all} {rest} {j} {y} e p =
 pub on_step : (l : List ℕ) (i : ℕ) {all rest : List ℕ} {y : ℕ} → all ≡ y ∷ rest → sets l i all ≡ sets (set l i y) (i + 1) rest
 on_step l i e = rw (e, add-one)
 
--- the value for i + 1 goes to index i
-list_more : (f : ℕ → ℕ) (n i : ℕ) → i < n → list_from f (i + 1) (n - i) ≡ f (i + 1) ∷ list_from f (i + 1 + 1) (n - (i + 1))
+-- the value for x goes to index x - 1
+list_more : (f : ℕ → ℕ) (n x : ℕ) → x ≤ n → list_from f x (n + 1 - x) ≡ f x ∷ list_from f (x + 1) (n + 1 - (x + 1))
 unfolding list_from
-list_more f n i lt = let e : n - i ≡ suc (n - (i + 1)) = omega arith in rw (e, add-one (i + 1))
+list_more f n x le = let e : n + 1 - x ≡ suc (n + 1 - (x + 1)) = omega arith in rw (e, add-one x)
 
-pub fill_step : (f : ℕ → ℕ) (n i : ℕ) (l : List ℕ) {v : ℕ} → i < n → v ≡ f (i + 1) → sets l i (list_from f (i + 1) (n - i)) ≡ sets (set l i v) (i + 1) (list_from f (i + 1 + 1) (n - (i + 1)))
-fill_step f n i l lt e = on_step l i (list_more f n i lt ∙ ap (λ (w : ℕ). w ∷ list_from f (i + 1 + 1) (n - (i + 1))) (sym e))
+pub fill_step : (f : ℕ → ℕ) (n x : ℕ) (l : List ℕ) {v : ℕ} → Between 1 n x → v ≡ f x → sets l (x - 1) (list_from f x (n + 1 - x)) ≡ sets (set l (x - 1) v) (x + 1 - 1) (list_from f (x + 1) (n + 1 - (x + 1)))
+fill_step f n x l {v} i e =
+    let next : x - 1 + 1 ≡ x + 1 - 1 = omega arith in
+    on_step l (x - 1) (list_more f n x i.most ∙ ap (λ (w : ℕ). w ∷ list_from f (x + 1) (n + 1 - (x + 1))) (sym e))
+    ∙ ap (λ (j : ℕ). sets (set l (x - 1) v) j (list_from f (x + 1) (n + 1 - (x + 1)))) next
 
-pub fill_end : (f : ℕ → ℕ) (n i : ℕ) (l : List ℕ) → n ≤ i → sets l i (list_from f (i + 1) (n - i)) ≡ l
+pub fill_end : (f : ℕ → ℕ) (n x : ℕ) (l : List ℕ) → n < x → sets l (x - 1) (list_from f x (n + 1 - x)) ≡ l
 unfolding list_from
-fill_end f n i l le = let e : n - i ≡ 0 = omega arith in rw e
+fill_end f n x l lt = let e : n + 1 - x ≡ 0 = omega arith in rw e

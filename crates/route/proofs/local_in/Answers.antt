@@ -1,59 +1,50 @@
--- `route::local_in` meets its contract. The loop's invariant: the tested crossings from y on decide. Assumes nothing.
-use mathlib.Core.Path.{refl, sym, ◌∙◌, ap}
-use native.Mathlib.Omega.{arith}
-use lib.ListN.{length}
-use Rattle.half.specs.Half.{dist}
-use Rattle.trail.proofs.Walking.{step_settled, step_nearer, step_trail}
+-- `route::local_in` meets its contract. Assumes nothing.
+use Rattle.std.proofs.Common.{length, refl, sym, ◌∙◌, ap, arith}
+use Rattle.trail.proofs.Walking.{walk_on}
 use Rattle.route.specs.Area.{local_in}
-use Rattle.route.proofs.Local.{local_far, local_end, local_on, local_fails}
+use Rattle.route.proofs.Local.{local_far, local_end, local_on, local_fails, on_no_farther}
 use Rattle.route.proofs.local_in.Goals as goal
 
-pub loop-y-init : goal.loop-y-init
+pub loop-at-init : goal.loop-at-init
 unfolding local_in
-loop-y-init c = ((λ _. c.requires.1), (λ _. omega arith), refl)
-
-pub overflow_cast-d : goal.overflow_cast-d
-overflow_cast-d c = let l = c.loop-y in let a = c.args in let p = c.requires in let s = l.invariant.0 c.loop-y-test.true in omega (arith, s, p.0.room)
-
-pub offset_bounds-half-y : goal.offset_bounds-half-y
-offset_bounds-half-y c = let l = c.loop-y in let a = c.args in let p = c.requires in let s = l.invariant.0 c.loop-y-test.true in omega (arith, s, p.0.room)
-
-pub bounds-half-y : goal.bounds-half-y
-bounds-half-y c = let l = c.loop-y in let a = c.args in let p = c.requires in let s = l.invariant.0 c.loop-y-test.true in omega (arith, s, p.0.room)
-
-pub overflow_sub-d-in-loop-y : goal.overflow_sub-d-in-loop-y
-unfolding dist
-overflow_sub-d-in-loop-y c = let l = c.loop-y in let a = c.args in let p = c.requires in let s = l.invariant.0 c.loop-y-test.true in omega (arith, l.invariant.1 c.loop-y-test.true)
+loop-at-init c = ((c.requires.1, omega arith), refl)
 
 pub returns-then-locality-d : goal.returns-then-locality-d
-unfolding dist
-returns-then-locality-d c = let l = c.loop-y in let a = c.args in let p = c.requires in let s = l.invariant.0 c.loop-y-test.true in sym (l.invariant.2 ∙ local_far p.0 a.locality a.other.now a.x l.y s c.if-locality-d.true)
-
-pub overflow_add-d : goal.overflow_add-d
-unfolding dist
-overflow_add-d c = let l = c.loop-y in let a = c.args in let p = c.requires in let s = l.invariant.0 c.loop-y-test.true in omega (arith, p.0.low a.x p.1, p.3)
-
-pub agrees-requires : goal.agrees-requires
-agrees-requires c = let l = c.loop-y in let a = c.args in let p = c.requires in let s = l.invariant.0 c.loop-y-test.true in (s.inside, p.2)
+returns-then-locality-d c =
+    let t = c.args.trails.now in
+    let l = c.loop-at in
+    let s = (rw c.in-Some.is at l.invariant.0).0 in
+    let far = rw (c.entry-from.ensures, c.entry.ensures) at c.if-locality-d.true in
+    sym (l.invariant.1 ∙ rw c.in-Some.is (local_far t.walkable c.args.locality c.args.other.now.words.now c.args.x c.in-Some.q s far))
 
 pub returns-then-not-agrees : goal.returns-then-not-agrees
-unfolding dist
-returns-then-not-agrees c = let l = c.loop-y in let a = c.args in let p = c.requires in let s = l.invariant.0 c.loop-y-test.true in sym (l.invariant.2 ∙ local_fails p.0 a.locality a.other.now a.x l.y s c.if-locality-d.false c.agrees.ensures c.if-not-agrees.true)
+returns-then-not-agrees c =
+    let t = c.args.trails.now in
+    let l = c.loop-at in
+    let s = (rw c.in-Some.is at l.invariant.0).0 in
+    let near = rw (c.entry-from.ensures, c.entry.ensures) at c.if-locality-d.false in
+    let told = rw (c.entry-from.ensures, c.entry.ensures, c.entry-to.ensures, c.requires.0) at c.agrees.ensures in
+    sym (l.invariant.1 ∙ rw c.in-Some.is (local_fails t.walkable c.args.locality c.args.other.now.words.now c.args.x c.in-Some.q s near told c.if-not-agrees.true))
 
-pub after-y-requires : goal.after-y-requires
-after-y-requires c = let l = c.loop-y in let a = c.args in let p = c.requires in let s = l.invariant.0 c.loop-y-test.true in (p.0, s)
+pub loop-at-smaller : goal.loop-at-smaller
+loop-at-smaller c =
+    let l = c.loop-at in
+    let s = (rw c.in-Some.is at l.invariant.0).0 in
+    omega (arith, ap length (walk_on c.args.trails.now.walkable c.in-Some.is (rw c.in-Some.is s) c.after-at.ensures.crossing))
 
-pub loop-y-smaller : goal.loop-y-smaller
-loop-y-smaller c = let l = c.loop-y in let a = c.args in let p = c.requires in let s = l.invariant.0 c.loop-y-test.true in omega (arith, ap length (step_trail p.0 l.y s c.after-y.ensures))
-
-pub loop-y-preserved : goal.loop-y-preserved
-unfolding dist
-loop-y-preserved c =
-    let l = c.loop-y in
-    let a = c.args in
-    let p = c.requires in
-    let s = l.invariant.0 c.loop-y-test.true in
-    (step_settled p.0 l.y s c.after-y.ensures, (λ nz. omega (arith, step_nearer p.0 l.y s c.after-y.ensures nz, l.invariant.1 c.loop-y-test.true)), l.invariant.2 ∙ local_on p.0 a.locality a.other.now a.x l.y s c.if-locality-d.false c.after-y.ensures c.agrees.ensures c.if-not-agrees.false)
+pub loop-at-preserved : goal.loop-at-preserved
+loop-at-preserved c =
+    let t = c.args.trails.now in
+    let l = c.loop-at in
+    let s = rw c.in-Some.is at l.invariant.0 in
+    let near = rw (c.entry-from.ensures, c.entry.ensures) at c.if-locality-d.false in
+    let told = rw (c.entry-from.ensures, c.entry.ensures, c.entry-to.ensures, c.requires.0) at c.agrees.ensures in (
+      on_no_farther t.walkable c.args.x c.in-Some.q s.0 s.1 c.after-at.result c.after-at.ensures.crossing c.after-at.ensures.settled,
+      l.invariant.1 ∙ rw c.in-Some.is (local_on t.walkable c.args.locality c.args.other.now.words.now c.args.x c.in-Some.q s.0 near c.after-at.ensures.crossing told c.if-not-agrees.false),
+    )
 
 pub returns : goal.returns
-returns c = let l = c.loop-y in let a = c.args in let p = c.requires in sym (l.invariant.2 ∙ local_end p.0 a.locality a.other.now a.x l.y c.loop-y-test.false)
+returns c =
+    let t = c.args.trails.now in
+    let l = c.loop-at in
+    sym (l.invariant.1 ∙ rw c.in_default.is (local_end t.walkable c.args.locality c.args.other.now.words.now c.args.x 0 refl))

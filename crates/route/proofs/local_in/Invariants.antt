@@ -1,15 +1,16 @@
--- `route::local_in` meets its contract. The loop's invariant: the tested crossings from y on decide. Assumes nothing.
-use mathlib.Core.Path.{◌≡◌}
-use mathlib.Core.Logic.{◌≢◌}
-use Prim.Native.Nat.{◌≤◌}
-use lib.ListN.{length}
-use Rattle.half.specs.Half.{dist}
+-- `route::local_in` meets its contract. The loop's invariant: the tested crossings from the next on decide. Assumes nothing.
+use Rattle.std.proofs.Common.{◌≡◌, ◌≤◌, length, IfSome}
+use Rattle.half.specs.Half.{or_zero, dist}
 use Rattle.trail.specs.Trail.{trail, Settled}
 use Rattle.route.specs.Area.{tested, agrees, every, local_in}
 use Rattle.route.proofs.local_in.Given as goal
 
-abbrev pub invariant-loop-y : goal.invariant-loop-y
-invariant-loop-y l = (l.y ≢ 0 → Settled l.n l.half l.y) × (l.y ≢ 0 → dist l.half l.y ≤ dist l.half l.x) × (local_in l.side l.map l.n l.locality l.half l.other l.x ≡ every (agrees l.n l.half l.other l.x) (tested l.locality l.half l.x (trail l.side l.map l.n l.half l.y)))
+abbrev pub invariant-loop-at : goal.invariant-loop-at
+invariant-loop-at l =
+    let t = l.trails in
+    let h = t.half.words.now in
+    IfSome l.at (λ q. Settled t.half.n h q × (dist h q ≤ dist h l.x))
+    × (local_in t.side t.map.now t.half.n l.locality h l.other.words.now l.x ≡ every (agrees t.half.n h l.other.words.now l.x) (tested l.locality h l.x (trail t.side t.map.now t.half.n h (or_zero l.at))))
 
-abbrev pub decreases-loop-y : goal.decreases-loop-y
-decreases-loop-y l = length (trail l.side l.map l.n l.half l.y)
+abbrev pub decreases-loop-at : goal.decreases-loop-at
+decreases-loop-at l = let t = l.trails in length (trail t.side t.map.now t.half.n t.half.words.now (or_zero l.at))

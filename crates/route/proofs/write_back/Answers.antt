@@ -1,42 +1,33 @@
--- `route::write_back` meets its contract. The loop's invariant: writing the rest, from y on, gives the whole. Assumes nothing.
-use mathlib.Core.List.{List, reverse}
-use mathlib.Core.Path.{refl, sym, ◌∙◌, ap}
-use Prim.Native.Nat.{ℕ}
-use native.Mathlib.Omega.{arith}
+-- `route::write_back` meets its contract. Assumes nothing.
+use Rattle.std.proofs.Common.{ℕ, List, length, reverse, refl, sym, ◌∙◌, ap, arith}
 use lib.Seq.{sets}
-use lib.ListN.{length-set, length}
-use Rattle.trail.proofs.Walking.{trail_none, step_settled, step_trail}
+use lib.ListN.{length-set}
+use Rattle.trail.proofs.Walking.{walk_on, walk_done}
 use Rattle.route.proofs.Writing.{back_step}
 use Rattle.route.proofs.write_back.Goals as goal
 
-pub loop-y-init : goal.loop-y-init
-loop-y-init c = let p = c.requires in ((λ _. p.1), p.2, omega arith, refl, refl)
-
 pub overflow_sub-j : goal.overflow_sub-j
-overflow_sub-j c = let l = c.loop-y in let p = c.requires in let s = l.invariant.0 c.loop-y-test.true in omega (arith, l.invariant.1, ap length (step_trail p.0 l.y s refl))
-
-pub offset_bounds-buffer-j : goal.offset_bounds-buffer-j
-offset_bounds-buffer-j c = let l = c.loop-y in let p = c.requires in let s = l.invariant.0 c.loop-y-test.true in omega (arith, l.invariant.1, l.invariant.2, l.invariant.3, p.3, ap length (step_trail p.0 l.y s refl))
+overflow_sub-j c =
+    let l = c.loop-at in
+    omega (arith, l.invariant.1, ap length (walk_on c.args.trails.now.walkable c.in-Some.is l.invariant.0 refl))
 
 pub bounds-buffer-j : goal.bounds-buffer-j
-bounds-buffer-j c = let l = c.loop-y in let p = c.requires in let s = l.invariant.0 c.loop-y-test.true in omega (arith, l.invariant.1, l.invariant.2, l.invariant.3, p.3, ap length (step_trail p.0 l.y s refl))
+bounds-buffer-j c =
+    let l = c.loop-at in
+    omega (arith, l.invariant.1, l.invariant.2, l.invariant.3, c.requires.2, ap length (walk_on c.args.trails.now.walkable c.in-Some.is l.invariant.0 refl))
 
-pub after-y-requires : goal.after-y-requires
-after-y-requires c = let l = c.loop-y in let p = c.requires in let s = l.invariant.0 c.loop-y-test.true in (p.0, s)
+pub loop-at-smaller : goal.loop-at-smaller
+loop-at-smaller c =
+    omega (arith, ap length (walk_on c.args.trails.now.walkable c.in-Some.is c.loop-at.invariant.0 c.after-at.ensures.crossing))
 
-pub loop-y-smaller : goal.loop-y-smaller
-loop-y-smaller c = let l = c.loop-y in let p = c.requires in let s = l.invariant.0 c.loop-y-test.true in omega (arith, ap length (step_trail p.0 l.y s c.after-y.ensures))
-
-pub loop-y-preserved : goal.loop-y-preserved
-loop-y-preserved c =
-    let l = c.loop-y in
-    let p = c.requires in
-    let s = l.invariant.0 c.loop-y-test.true in
-    let t = step_trail p.0 l.y s c.after-y.ensures in
-    (step_settled p.0 l.y s c.after-y.ensures, omega (arith, l.invariant.1, ap length t), omega (arith, l.invariant.2), simp length-set l.invariant.3, l.invariant.4 ∙ back_step l.buffer t l.invariant.1)
-
-pub shape_of-buffer : goal.shape_of-buffer
-shape_of-buffer c = c.loop-y.invariant.3
+pub loop-at-preserved : goal.loop-at-preserved
+loop-at-preserved c =
+    let l = c.loop-at in
+    let t = walk_on c.args.trails.now.walkable c.in-Some.is l.invariant.0 c.after-at.ensures.crossing in
+    (c.after-at.ensures.settled, omega (arith, l.invariant.1, ap length t), omega (arith, l.invariant.2), simp length-set l.invariant.3, l.invariant.4 ∙ back_step l.buffer t l.invariant.1)
 
 pub returns : goal.returns
-returns c = let l = c.loop-y in let a = c.args in sym (l.invariant.4 ∙ ap (λ (qs : List ℕ). sets l.buffer 0 (reverse qs)) (trail_none a.side a.map.now a.n a.half.now l.y c.loop-y-test.false))
+returns c =
+    let t = c.args.trails.now in
+    let l = c.loop-at in
+    sym (l.invariant.4 ∙ ap (λ (qs : List ℕ). sets l.buffer 0 (reverse qs)) (walk_done t.side t.map.now t.half.n t.half.words.now c.in_default.is))
