@@ -15,7 +15,7 @@ use Rattle.half.specs.Half.{dist, state}
 use Rattle.half.proofs.Opening.{over_step, over_end}
 use Rattle.shape.specs.Bench.{Bench, marks_at, bench_words, words, parse}
 use Rattle.shape.specs.Parts.{with_marks}
-use Rattle.shape.specs.Rules.{within, known, mark_by, mark, list_from, marks_of, remarked}
+use Rattle.shape.specs.Rules.{within, known, mark, list_from, marks_of, remarked}
 use Rattle.shape.proofs.Rounds.{Room, parse_room, words_parse, parse_words}
 use Rattle.shape.proofs.Parts.{before_marks, words_marks, room_by, marks_place}
 
@@ -53,12 +53,6 @@ module _ (n stretch optimum : ℕ) (f g : List ℕ) where
   pub marks_le : {v : ℕ} → Between 1 n v → get_or (marks_of n stretch optimum f g) (v - 1) 0 ≤ 1
   marks_le {v} i = rw (marks_at_lem i) (mark_le v)
 
-  -- from the four words of a crossing
-  pub mark_by_lem : (v : ℕ) {s t a b r : ℕ} → s ≡ state n f v → t ≡ state n g v → a ≡ dist f v → b ≡ dist g v
-      → r ≡ mark_by stretch optimum s t a b → r ≡ mark n stretch optimum f g v
-  unfolding mark
-  mark_by_lem v p q d e h = h ∙ rw (p, q, d, e)
-
 -- ---- writing them
 
 set_after : (xs ys : List ℕ) (i a : ℕ) → set (xs ++ ys) (length xs + i) a ≡ xs ++ set ys i a
@@ -94,22 +88,23 @@ module _ (n : ℕ) (x : List ℕ) where
     pub marks_start : x ≡ words (so_far 0)
     marks_start = sym (words_parse n x long)
 
-    pub marks_step : (i : ℕ) {y : List ℕ} {at a : ℕ} → i < n → y ≡ words (so_far i) → at ≡ marks_at n
-        → a ≡ mark n (parse n x).stretch (parse n x).optimum (parse n y).forward (parse n y).backward (i + 1)
-        → set y (at + i) a ≡ words (so_far (i + 1))
-    marks_step i {y} {at} {a} lt p q r =
-        let back : parse n y ≡ so_far i = ap (parse n) p ∙ parse_words n (so_far i) (so_far_room i (omega arith)) in
-        let e : i + 1 - 1 ≡ i = omega arith in
-        let m : get_or new (i + 1 - 1) 0 ≡ mark n (parse n x).stretch (parse n x).optimum (parse n x).forward (parse n x).backward (i + 1) =
-        marks_at_lem n (parse n x).stretch (parse n x).optimum (parse n x).forward (parse n x).backward (omega arith) in
-        let w : a ≡ get_or new i 0 = (rw back at r) ∙ sym (rw e at m) in
-        rw (p, q) (words_mark n (so_far i) (so_far_room i (omega arith)) i a lt)
+    -- the step of a loop that has written the marks before v
+    pub marks_next : (j v : ℕ) {y : List ℕ} {i a : ℕ} → j ≡ v → Between 1 n v → i ≡ marks_at n + (v - 1) → y ≡ words (so_far (v - 1))
+        → a ≡ mark n (parse n x).stretch (parse n x).optimum (parse n y).forward (parse n y).backward v
+        → set y i a ≡ words (so_far j)
+    marks_next j v {y} {i} {a} jv in_n place p r =
+        let room = so_far_room (v - 1) (omega arith) in
+        let back : parse n y ≡ so_far (v - 1) = ap (parse n) p ∙ parse_words n (so_far (v - 1)) room in
+        let w : a ≡ get_or new (v - 1) 0 = (rw back at r) ∙ sym (marks_at_lem n _ _ _ _ in_n) in
+        let e : v - 1 + 1 ≡ j = omega arith in
+        rw (p, place) (words_mark n (so_far (v - 1)) room (v - 1) a (omega arith))
         ∙ ap (λ (l : List ℕ). words (with_marks l (parse n x)))
-        (over_step new (parse n x).marks i marks_long (omega (arith, (parse_room n x long).marks)) w refl)
+        (over_step new (parse n x).marks (v - 1) marks_long (omega (arith, (parse_room n x long).marks)) w refl
+        ∙ ap (λ (k : ℕ). take k new ++ drop k (parse n x).marks) e)
 
-    pub marks_end : (i : ℕ) → n ≤ i → (parse n x).n ≡ n
-        → words (so_far i) ≡ words (remarked (parse n x))
-    marks_end i le same =
+    pub marks_end : (j : ℕ) → n ≤ j → get_or x 0 0 ≡ n → words (so_far j) ≡ words (remarked (parse n x))
+    unfolding parse
+    marks_end j le same =
         ap (λ (l : List ℕ). words (with_marks l (parse n x)))
-        (over_end new (parse n x).marks i marks_long (omega (arith, (parse_room n x long).marks))
+        (over_end new (parse n x).marks j marks_long (omega (arith, (parse_room n x long).marks))
         ∙ ap (λ (k : ℕ). marks_of k (parse n x).stretch (parse n x).optimum (parse n x).forward (parse n x).backward) (sym same))

@@ -1,14 +1,12 @@
--- The words of a bench and its parts, there and back; the words of a crossing in the whole bench. Assumes nothing.
+-- The words of a bench and its parts, there and back. Assumes nothing.
 use mathlib.Core.Path.{◌≡◌, sym, ◌∙◌, ap}
 use mathlib.Core.List.{List, ◌∷◌, ◌++◌}
 use Prim.Native.Nat.{ℕ, suc, ◌+◌, ◌*◌, ◌-◌, ◌≤◌, ◌<◌}
 use native.Mathlib.Omega.{arith}
 use lib.ListN.{length, get_or, take, drop, take-append-drop, length-take, length-drop}
-use lib.Seq.{take_at, drop_at, drop-drop, drop-cons, get_or-take, get_or-drop}
-use Rattle.limits.specs.Limits.{Between}
+use lib.Seq.{take_at, drop_at, drop-drop, drop-cons}
 use Rattle.map.specs.declared.Side.{Side}
 use Rattle.map.specs.declared.Side.TheVariants.{Forward, Backward}
-use Rattle.half.specs.Half.{dist, state}
 use Rattle.shape.specs.Bench.{Bench, half, half_at, marks_at, bench_words, words, parse, WellShaped}
 
 -- the halves and the marks are as long as n crossings need
@@ -43,11 +41,6 @@ module _ (n : ℕ) (x : List ℕ) (long : bench_words n ≤ length x) where
       halves Forward = simp (length-take, length-drop) (omega arith)
       halves Backward = simp (length-take, length-drop) (omega arith)
 
-  half_word : (s : Side) (i : ℕ) → i < 3 * n → get_or (half s (parse n x)) i 0 ≡ get_or x (half_at s n + i) 0
-  unfolding parse
-  half_word Forward i lt = get_or-take (3 * n) (drop (half_at Forward n) x) i 0 lt ∙ get_or-drop (half_at Forward n) x i 0
-  half_word Backward i lt = get_or-take (3 * n) (drop (half_at Backward n) x) i 0 lt ∙ get_or-drop (half_at Backward n) x i 0
-
   -- what follows the first six words, part by part
   parts : drop (half_at Forward n) x ≡ (parse n x).forward ++ ((parse n x).backward ++ ((parse n x).marks ++ (parse n x).past))
   unfolding parse
@@ -71,18 +64,6 @@ module _ (n : ℕ) (x : List ℕ) (long : bench_words n ≤ length x) where
     where
       back : (j : ℕ) → j < length x → get_or x j 0 ∷ drop (suc j) x ≡ drop j x
       back j lt = sym (drop-cons x j 0 lt)
-
-  -- the words of a crossing, in the whole bench
-  module _ (s : Side) {v : ℕ} (i : Between 1 n v) where
-    pub dist_at : dist (half s (parse n x)) v ≡ get_or x (half_at s n + (v - 1)) 0
-    unfolding dist
-    dist_at = half_word s (v - 1) (omega arith)
-
-    pub state_at : state n (half s (parse n x)) v ≡ get_or x (half_at s n + (v - 1) + 2 * n) 0
-    unfolding state
-    state_at =
-        let e : half_at s n + (2 * n + (v - 1)) ≡ half_at s n + (v - 1) + 2 * n = omega arith in
-        half_word s (2 * n + (v - 1)) (omega arith) ∙ ap (λ (j : ℕ). get_or x j 0) e
 
 module _ (n : ℕ) (b : Bench) (room : Room n b) where
   -- the words from the backward half on, and from the marks on

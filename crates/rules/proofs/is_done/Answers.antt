@@ -1,13 +1,11 @@
 -- `rules::is_done` meets its contract. Assumes nothing.
-use mathlib.Core.Path.{sym}
-use Rattle.rules.proofs.Laws.{next_in, done_none, done_by}
+use Rattle.std.proofs.Common.{sym, arith, rules}
+use Rattle.shape.specs.Bench.{parse}
+use Rattle.rules.proofs.Laws.{done_by}
 use Rattle.rules.proofs.is_done.Goals as goal
 
-pub returns-then-x-eq0 : goal.returns-then-x-eq0
-returns-then-x-eq0 c = sym (done_none c.args.side _ _ c.nearest-x.ensures c.requires.2 c.if-x-eq0.true)
-
-pub distance-d-requires : goal.distance-d-requires
-distance-d-requires c = (c.requires.0, next_in c.args.side _ _ c.nearest-x.ensures c.if-x-eq0.false, c.requires.1)
-
 pub returns : goal.returns
-returns c = sym (done_by c.args.side _ _ c.nearest-x.ensures c.requires.2 c.if-x-eq0.false c.distance-d.ensures c.beyond.ensures)
+unfolding parse
+returns c =
+    let a = c.args in
+    sym (done_by a.side a.bench.now.n a.bench.now.words.now {x = c.in-Some.x} (search rules) c.requires (λ z. omega (arith, c.in-Some.ensures.found)) {d = c.entry.result.dist} (search rules) (search rules))
