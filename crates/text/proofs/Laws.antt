@@ -1,10 +1,11 @@
--- The ways that the reader goes: what is left of a text from a place on, what a line does to the answer, and its words to the map. Assumes nothing.
+-- The ways that the reader goes: the line at a place, what a line does to the answer, and its words to the map. Assumes nothing.
 use mathlib.Core.Path.{◌≡◌, refl, ◌∙◌}
 use mathlib.Core.List.{List, [], ◌∷◌}
 use Prim.Native.Nat.{ℕ, ◌+◌, ◌-◌, ◌≤◌, ◌<◌}
 use native.Mathlib.Omega.{arith}
-use lib.ListN.{length, take, drop, length-append, length-drop, drop_of_length-le}
-use lib.Seq.{sets, take_all}
+use lib.ListN.{length, take, drop, length-append, drop_of_length-le}
+use lib.Seq.{sets}
+use Rattle.std.specs.Prelude.{Result, Ok, Err}
 use Rattle.limits.proofs.Lists.{sets_append}
 use Rattle.limits.specs.Said.{refused}
 use Rattle.line.specs.Line.{line_of}
@@ -13,20 +14,13 @@ use Rattle.line.proofs.Lines.{first_of, line_ends}
 use Rattle.line.specs.declared.Field.{Field}
 use Rattle.line.specs.declared.Line.{Line}
 use Rattle.line.specs.declared.Line.TheVariants.{Link}
-use Rattle.step.specs.Step.{taken}
+use Rattle.line.specs.declared.NoLine.{NoLine}
+use Rattle.step.specs.Step.{FaultAt, taken}
 use Rattle.text.specs.Held.{line_at}
 use Rattle.text.specs.Text.{finish, read_lines, line_words, words_of}
 use Rattle.step.specs.declared.State.{State}
-use Rattle.step.specs.declared.Fault.{Fault}
-use Rattle.step.specs.declared.Step.TheVariants.{Go, Stop}
 
--- ---- what is left from a place on
-
-pub left_some : (s : List ℕ) (at : ℕ) → take (length s - at) (drop at s) ≡ drop at s
-left_some s at = take_all (length s - at) (drop at s) (simp length-drop (omega arith))
-
-pub left_none : (s : List ℕ) (at end : ℕ) → length s ≤ at → length s ≤ end → take (end - end) (drop end s) ≡ drop at s
-left_none s at end h k = let z : end - end ≡ 0 = omega arith in rw (drop_of_length-le s h, drop_of_length-le s k, z)
+-- ---- the line at a place
 
 -- its first line is the one at the place
 module _ (l : List ℕ) {e : ℕ} (q : e ≡ line_end l 0) where
@@ -51,11 +45,11 @@ lines_on s at h =
 -- ---- the first pass
 
 module _ (room : ℕ) (st : State) (at : ℕ) (l : List ℕ) (ls : List (List ℕ)) where
-  pub read_stop : {fault : Fault} → Stop fault ≡ taken room st (line_of l) → refused fault.number (at ∷ []) ≡ read_lines room st at (l ∷ ls)
+  pub read_stop : {fault : FaultAt} → Err fault ≡ taken room st (line_of l) → refused fault.number (at ∷ []) ≡ read_lines room st at (l ∷ ls)
   unfolding read_lines
   read_stop e = rw (← e)
 
-  pub read_go : {next : State} → Go next ≡ taken room st (line_of l) → read_lines room next (at + 1) ls ≡ read_lines room st at (l ∷ ls)
+  pub read_go : {next : State} → Ok next ≡ taken room st (line_of l) → read_lines room next (at + 1) ls ≡ read_lines room st at (l ∷ ls)
   unfolding read_lines
   read_go e = rw (← e)
 
@@ -65,7 +59,7 @@ read_end room st at s h = rw (drop_of_length-le s h)
 
 -- ---- the second pass
 
-pub words_link : (x : Line) {u v w : Field} → x ≡ Link u v w → line_words x ≡ u.value ∷ v.value ∷ w.value ∷ []
+pub words_link : (x : Result Line NoLine) {u v w : Field} → x ≡ Ok (Link u v w) → line_words x ≡ u.value ∷ v.value ∷ w.value ∷ []
 unfolding line_words
 words_link x e = rw e
 

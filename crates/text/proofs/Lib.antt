@@ -1,4 +1,3 @@
 pub mod Good
 pub mod Laws
 pub mod Refusals
-pub mod Held

@@ -1,19 +1,21 @@
 -- What reading a text answers, and what the map then holds: line by line the first fault, else n, m and the links. Assumes nothing.
-use Rattle.std.specs.Prelude.{cond, List, [], ◌∷◌, ◌++◌, ℕ, ◌+◌, ltb, eqb, length, drop}
+use Rattle.std.specs.Prelude.{cond, List, [], ◌∷◌, ◌++◌, ℕ, ◌+◌, ltb, eqb, length, drop, Result, Ok, Err}
+use Rattle.limits.specs.Refusals.{number_of}
 use Rattle.limits.specs.Said.{Said, told, refused, unless_refused}
 use Rattle.line.specs.Line.{line_of}
 use Rattle.line.specs.Lines.{lines_of}
 use Rattle.line.specs.declared.Line.{Line}
-use Rattle.line.specs.declared.Line.TheVariants.{Comment, Size, Link, Strange, Wrong}
+use Rattle.line.specs.declared.Line.TheVariants as lines
+use Rattle.line.specs.declared.NoLine.{NoLine}
 use Rattle.step.specs.Step.{state_of, taken, step_then}
 use Rattle.step.specs.declared.State.{State}
-use Rattle.text.specs.declared.Reading.{Reading}
-use Rattle.text.specs.declared.Reading.TheVariants.{Read, Refused}
+use Rattle.text.specs.declared.Size.{Size}
+use Rattle.text.specs.declared.Refused.{Refused}
 
 -- the answer in the paper's numbers: n and m, or the number of refusal and the line
-abbrev pub said : Reading → Said
-said (Read n m) = told (n ∷ m ∷ [])
-said (Refused number at) = refused number (at ∷ [])
+abbrev pub said : Result Size Refused → Said
+said (Ok size) = told (size.n ∷ size.m ∷ [])
+said (Err r) = refused (number_of r.refusal) (r.line ∷ [])
 
 -- ---- the whole text
 
@@ -34,12 +36,11 @@ unfoldable pub read_text : ℕ → List ℕ → Said
 read_text room s = cond (ltb 1048576 (length s)) (refused 2 (0 ∷ [])) (read_lines room (state_of 0 0 0) 1 (lines_of s))
 
 -- the words of the links, in their order
-unfoldable pub line_words : Line → List ℕ
-line_words Comment = []
-line_words (Size n m) = []
-line_words (Link u v w) = u.value ∷ v.value ∷ w.value ∷ []
-line_words (Strange p) = []
-line_words (Wrong p) = []
+unfoldable pub line_words : Result Line NoLine → List ℕ
+line_words (Ok lines.Comment) = []
+line_words (Ok (lines.Size n m)) = []
+line_words (Ok (lines.Link u v w)) = u.value ∷ v.value ∷ w.value ∷ []
+line_words (Err none) = []
 
 unfoldable pub words_of : List (List ℕ) → List ℕ
 words_of [] = []

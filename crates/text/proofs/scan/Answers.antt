@@ -27,8 +27,8 @@ slice_bounds-take_line-start c = omega (arith, line_ends _ _ _ c.loop-at-test.tr
 pub slice_bounds-take_line-end : goal.slice_bounds-take_line-end
 slice_bounds-take_line-end c = omega (arith, line_ends _ _ _ c.loop-at-test.true c.line_end-end.ensures)
 
-pub returns-in-Stop : goal.returns-in-Stop
-returns-in-Stop c = let e = line_ends _ _ _ c.loop-at-test.true c.line_end-end.ensures in let l = c.loop-at in cc (l.invariant.3, e.first, read_stop _ l.state l.number _ (lines_of (drop c.line_end-end.result _)) c.in-Stop.ensures)
+pub returns-in-Err : goal.returns-in-Err
+returns-in-Err c = let e = line_ends _ _ _ c.loop-at-test.true c.line_end-end.ensures in let l = c.loop-at in cc (l.invariant.3, e.first, read_stop _ l.state l.number _ (lines_of (drop c.line_end-end.result _)) c.in-Err.ensures)
 
 pub overflow_add-number : goal.overflow_add-number
 overflow_add-number c = omega (arith, line_ends _ _ _ c.loop-at-test.true c.line_end-end.ensures)
@@ -37,7 +37,7 @@ pub loop-at-smaller : goal.loop-at-smaller
 loop-at-smaller c = omega (arith, line_ends _ _ _ c.loop-at-test.true c.line_end-end.ensures)
 
 pub loop-at-preserved : goal.loop-at-preserved
-loop-at-preserved c = let e = line_ends _ _ _ c.loop-at-test.true c.line_end-end.ensures in let l = c.loop-at in (e.within, omega (arith, e.after), l.invariant.2, cc (l.invariant.3, e.first, read_go _ l.state l.number _ (lines_of (drop c.line_end-end.result _)) c.in-Go.ensures))
+loop-at-preserved c = let e = line_ends _ _ _ c.loop-at-test.true c.line_end-end.ensures in let l = c.loop-at in (e.within, omega (arith, e.after), l.invariant.2, cc (l.invariant.3, e.first, read_go _ l.state l.number _ (lines_of (drop c.line_end-end.result _)) c.in-Ok.ensures))
 
 pub returns : goal.returns
 returns c = c.ended.ensures ∙ sym (c.loop-at.invariant.3 ∙ read_end _ _ _ _ c.loop-at-test.false)
