@@ -9,7 +9,7 @@ ghost use Rattle.half.specs.Half.{or_zero, ceiling, dist};
 ghost use Rattle.trail.specs.Trail.{trail as trail_of, Settled, Trails as CanWalk, Walkable};
 ghost use Rattle.route.specs.Area.{agrees_at, local_in, mask_at, mask_filled, route_in};
 
-use half::Half;
+use half::{Half, SETTLED};
 use map::Side;
 use trail::Trails;
 
@@ -20,7 +20,7 @@ fn agrees(other: &Half, q: u32, sum: u32) -> bool
     ensures { result ≡ agrees_at other.now.n other.now.words.now q sum }
 {
     let e = other.entry(q as usize);
-    e.state == 2 && e.dist == sum
+    e.state == SETTLED && e.dist == sum
 }
 
 // Every tested crossing of the trail of x agrees with the other half. Distances fall along a trail, so the tested ones come first.

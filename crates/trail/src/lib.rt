@@ -8,7 +8,7 @@ ghost use Rattle.half.specs.Half.{or_zero, ShapedHalf};
 ghost use Rattle.trail.specs.Sound.{root_fault, tight_fault, named_fault, sound_at, sound_fault, mark_fault, marks_fault};
 ghost use Rattle.trail.specs.Trail.{after as after_of, trail, Settled, Trails as CanWalk};
 
-use half::{Entry, Half};
+use half::{Entry, Half, SETTLED};
 use limits::Refusal;
 use map::{Roads, Side};
 
@@ -17,7 +17,7 @@ use map::{Roads, Side};
 fn check_root(e: Entry) -> Result<(), Refusal>
     ensures { fault_of result ≡ root_fault e }
 {
-    if e.dist != 0 || e.link != 0 || e.state != 2 {
+    if e.dist != 0 || e.link != 0 || e.state != SETTLED {
         return Err(Refusal::Trails);
     }
     Ok(())
@@ -38,7 +38,7 @@ fn check_tight(
 {
     let end = half.entry(half::near(roads.map, side, k) as usize);
     if half::far(roads.map, side, k) as usize != v
-        || end.state != 2
+        || end.state != SETTLED
         || end.dist + roads.map[3 * k - 1] != d
     {
         return Err(Refusal::Trails);
@@ -66,7 +66,7 @@ fn check_at(roads: &Roads, half: &Half, side: Side, root: u32, v: usize) -> Resu
     if v == root as usize {
         return check_root(e);
     }
-    if e.state != 2 {
+    if e.state != SETTLED {
         return Ok(());
     }
     check_named(roads, half, side, v, e)
