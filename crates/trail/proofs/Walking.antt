@@ -131,5 +131,8 @@ module _ {side : Side} {map : List ℕ} {n : ℕ} {h : List ℕ} (walk : Trails 
     pub walk_on : {y : ℕ} → y ≡ after side map n h v → trail side map n h (or_zero at) ≡ v ∷ trail side map n h y
     walk_on e = rw here (step_trail v walk_here e)
 
+    pub walk_long : 1 ≤ length (trail side map n h (or_zero at))
+    walk_long = omega (arith, ap length (walk_on refl))
+
 pub walk_done : (side : Side) (map : List ℕ) (n : ℕ) (h : List ℕ) {at : Option ℕ} → at ≡ None → trail side map n h (or_zero at) ≡ []
 walk_done side map n h e = rw e (trail_none side map n h 0 refl)

@@ -1,20 +1,20 @@
 -- `route::write_back` meets its contract. Assumes nothing.
-use Rattle.std.proofs.Common.{ℕ, List, length, reverse, refl, sym, ◌∙◌, ap, arith}
+use Rattle.std.proofs.Common.{ℕ, List, length, reverse, sym, ◌∙◌, ap, arith}
 use lib.Seq.{sets}
 use lib.ListN.{length-set}
-use Rattle.trail.proofs.Walking.{walk_on, walk_done}
+use Rattle.trail.proofs.Walking.{walk_long, walk_on, walk_done}
 use Rattle.route.proofs.Writing.{back_step}
 use Rattle.route.proofs.write_back.Goals as goal
 
 pub overflow_sub-j : goal.overflow_sub-j
 overflow_sub-j c =
     let l = c.loop-at in
-    omega (arith, l.invariant.1, ap length (walk_on c.args.trails.now.walkable c.in-Some.is l.invariant.0 refl))
+    omega (arith, l.invariant.1, walk_long c.args.trails.now.walkable c.in-Some.is l.invariant.0)
 
 pub bounds-buffer-j : goal.bounds-buffer-j
 bounds-buffer-j c =
     let l = c.loop-at in
-    omega (arith, l.invariant.1, l.invariant.2, l.invariant.3, c.requires.2, ap length (walk_on c.args.trails.now.walkable c.in-Some.is l.invariant.0 refl))
+    omega (arith, l.invariant.1, l.invariant.2, l.invariant.3, c.requires.2, walk_long c.args.trails.now.walkable c.in-Some.is l.invariant.0)
 
 pub loop-at-smaller : goal.loop-at-smaller
 loop-at-smaller c =

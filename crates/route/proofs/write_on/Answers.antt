@@ -1,25 +1,15 @@
 -- `route::write_on` meets its contract. Assumes nothing.
-use Rattle.std.proofs.Common.{length, refl, sym, ◌∙◌, ap, arith}
+use Rattle.std.proofs.Common.{length, sym, ◌∙◌, ap, arith}
 use lib.Seq.{sets}
 use lib.ListN.{length-set}
-use Rattle.trail.proofs.Walking.{walk_on, walk_done}
+use Rattle.trail.proofs.Walking.{walk_long, walk_on, walk_done}
 use Rattle.route.proofs.Writing.{on_step}
 use Rattle.route.proofs.write_on.Goals as goal
-
-pub offset_bounds-buffer-i : goal.offset_bounds-buffer-i
-offset_bounds-buffer-i c =
-    let l = c.loop-at in
-    omega (arith, l.invariant.1, l.invariant.2, c.requires.1, ap length (walk_on c.args.trails.now.walkable c.in-Some.is l.invariant.0 refl))
 
 pub bounds-buffer-i : goal.bounds-buffer-i
 bounds-buffer-i c =
     let l = c.loop-at in
-    omega (arith, l.invariant.1, l.invariant.2, c.requires.1, ap length (walk_on c.args.trails.now.walkable c.in-Some.is l.invariant.0 refl))
-
-pub overflow_add-i : goal.overflow_add-i
-overflow_add-i c =
-    let l = c.loop-at in
-    omega (arith, l.invariant.1, l.invariant.2, c.requires.1, ap length (walk_on c.args.trails.now.walkable c.in-Some.is l.invariant.0 refl))
+    omega (arith, l.invariant.1, l.invariant.2, c.requires.1, walk_long c.args.trails.now.walkable c.in-Some.is l.invariant.0)
 
 pub loop-at-smaller : goal.loop-at-smaller
 loop-at-smaller c =
