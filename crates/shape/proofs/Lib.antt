@@ -1,4 +1,3 @@
-pub mod Product
 pub mod Rounds
 pub mod Parts
 pub mod Marks

@@ -5,11 +5,10 @@ ghost use Rattle.std.specs.Prelude.{◌≡◌, ◌≤◌, length};
 ghost use Rattle.shape.specs.Bench.{half, root, half_at, marks_at, bench_words, parse};
 ghost use Rattle.shape.specs.Rules.{within as within_of, beyond as beyond_of, found as found_of, mark_by};
 
-use half::Half;
+use half::{Half, SETTLED};
+// An unknown optimum is a word of the lent layout, which may also hold a damaged one, so it stays that word and is no Option.
+use limits::UNKNOWN;
 use map::Side;
-
-// An unknown optimum.
-const UNKNOWN: u32 = 4294967295;
 
 // A bench for n crossings as it is lent to be read.
 #[derive(Clone, Copy)]
@@ -97,21 +96,20 @@ pub fn bench_words(n: usize) -> usize
 }
 
 // The one comparison with stretch times optimum: neither product passes 64 bits.
+#[tactic(auto, unfolding(crate::specs::Rules::within))]
 pub fn within(stretch: u32, optimum: u32, a: u32, b: u32) -> bool
     ensures { result ≡ within_of stretch optimum a b }
 {
-    let sum = (a as u64) + (b as u64);
-    1000 * sum <= (stretch as u64) * (optimum as u64)
+    let sum = u64::from(a) + u64::from(b);
+    1000 * sum <= u64::from(stretch) * u64::from(optimum)
 }
 
 // Rule 1: whether a half whose nearest open crossing is at distance d is done.
+#[tactic(auto, unfolding(crate::specs::Rules::beyond, crate::specs::Rules::known))]
 pub fn beyond(stretch: u32, optimum: u32, d: u32) -> bool
     ensures { result ≡ beyond_of stretch optimum d }
 {
-    if optimum == UNKNOWN {
-        return false;
-    }
-    !within(stretch, optimum, d, 0)
+    optimum != UNKNOWN && !within(stretch, optimum, d, 0)
 }
 
 // Rule 3: the optimum after x is settled at distance d, where the other half's root is the goal.
@@ -119,13 +117,11 @@ pub fn beyond(stretch: u32, optimum: u32, d: u32) -> bool
 pub fn found(goal: u32, x: u32, d: u32, optimum: u32) -> u32
     ensures { result ≡ found_of goal x d optimum }
 {
-    if x != goal {
-        return optimum;
+    if x == goal && optimum == UNKNOWN {
+        d
+    } else {
+        optimum
     }
-    if optimum != UNKNOWN {
-        return optimum;
-    }
-    d
 }
 
 // Rule 4 from the states s and t and the distances a and b of a crossing in the two halves.
@@ -133,17 +129,6 @@ pub fn found(goal: u32, x: u32, d: u32, optimum: u32) -> u32
 pub fn mark_of(stretch: u32, optimum: u32, s: u32, t: u32, a: u32, b: u32) -> u32
     ensures { result ≡ mark_by stretch optimum s t a b }
 {
-    if optimum == UNKNOWN {
-        return 0;
-    }
-    if s != 2 {
-        return 0;
-    }
-    if t != 2 {
-        return 0;
-    }
-    if within(stretch, optimum, a, b) {
-        return 1;
-    }
-    0
+    let both = s == SETTLED && t == SETTLED;
+    u32::from(optimum != UNKNOWN && both && within(stretch, optimum, a, b))
 }
