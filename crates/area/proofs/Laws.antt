@@ -1,36 +1,19 @@
--- The parts of a bench as the checks are lent them, and the ways that the checks of the area and the route go. Assumes nothing.
-use mathlib.Core.Path.{◌≡◌, refl, sym, subst, ◌∙◌}
-use mathlib.Core.Bool.{Bool, true, false, ◌&&◌}
-use mathlib.Core.List.{List}
-use Prim.Native.Nat.{ℕ, ◌+◌, ◌*◌, ◌-◌}
-use native.Mathlib.Omega.{arith}
-use borrow.Author.Tests.{eq-eqb, ne_eqb}
-use lib.ListN.{get_or, take, drop}
-use Rattle.limits.specs.First.{or_else}
+-- When a bench is finished, and that its trails can be walked then. Assumes nothing.
+use Rattle.std.proofs.Common.{◌≡◌, ℕ, List, true, false, ◌&&◌, ◌-◌, get_or, arith}
+use Rattle.limits.specs.Limits.{Between}
 use Rattle.limits.proofs.Cases.{and_both, cond_then}
-use Rattle.limits.proofs.Laws.{or_else_first, or_else_second, or_else_none}
+use Rattle.limits.proofs.Laws.{or_else_none}
+use Rattle.map.specs.Map.{Valid}
 use Rattle.map.specs.declared.Side.{Side}
 use Rattle.map.specs.declared.Side.TheVariants.{Forward, Backward}
-use Rattle.half.specs.Half.{unknown, ShapedHalf}
-use Rattle.shape.specs.Bench.{Bench, half, root, half_at, parse, WellShaped}
-use Rattle.shape.specs.Rules.{known, done}
-use Rattle.shape.proofs.Rounds.{half_part}
-use Rattle.shaped.proofs.Lent.{Ready}
-use Rattle.trail.specs.Sound.{SoundHalf, sound_fault, marks_fault}
-use Rattle.trail.specs.Trail.{Walkable}
+use Rattle.shape.specs.Bench.{Bench, half, root, parse, WellShaped}
+use Rattle.shape.specs.Rules.{done}
+use Rattle.trail.specs.Sound.{SoundHalf}
+use Rattle.trail.specs.Trail.{Settled, Trails, Walkable}
 use Rattle.trail.proofs.Soundness.{fault_sound, fault_marks, sound_walkable}
-use Rattle.area.specs.Finished.{done_fault, unknown_fault, rule_fault, trails_fault, finished_fault}
+use Rattle.area.specs.Finished.{done_fault, rule_fault, trails_fault, finished_fault}
 
--- ---- parts
-
-module _ (n : ℕ) (x : List ℕ) (s : Side) {a e : ℕ} (p : a ≡ half_at s n) (q : e ≡ half_at s n + 3 * n) where
-  pub half_between : take (e - a) (drop a x) ≡ half s (parse n x)
-  half_between = let k : e ≡ a + 3 * n = omega (arith, p, q) in rw k (half_part n x s p)
-
-  pub half_shaped : {m : ℕ} → WellShaped n m (parse n x) → ShapedHalf n m (take (e - a) (drop a x))
-  half_shaped {m} w = subst (ShapedHalf n m) (sym half_between) (w.halves s)
-
--- ---- when a bench is finished
+-- ---- both halves are done
 
 module _ (b : Bench) where
   pub fault_done : done_fault b ≡ 0 → (s : Side) → done s b ≡ true
@@ -41,83 +24,54 @@ module _ (b : Bench) where
   unfolding done_fault
   done_fault_lem d = rw (d Forward, d Backward)
 
-module _ (b : Bench) {f : Bool} (p : f ≡ done Forward b) where
-  pub not_done : f ≡ false → 8 ≡ done_fault b
+  pub forward_open : false ≡ done Forward b → 8 ≡ done_fault b
   unfolding done_fault
-  not_done h = rw (← p, h)
+  forward_open e = rw (← e)
 
-  module _ (h : f ≡ true) {g : Bool} (q : g ≡ done Backward b) where
-    pub not_done_back : g ≡ false → 8 ≡ done_fault b
-    unfolding done_fault
-    not_done_back k = rw (← p, h, ← q, k)
+  pub backward_open : true ≡ done Forward b → false ≡ done Backward b → 8 ≡ done_fault b
+  unfolding done_fault
+  backward_open e f = rw (← e, ← f)
 
-    pub both_done : g ≡ true → 0 ≡ done_fault b
-    unfolding done_fault
-    both_done k = rw (← p, h, ← q, k)
+  pub both_done : true ≡ done Forward b → true ≡ done Backward b → 0 ≡ done_fault b
+  unfolding done_fault
+  both_done e f = rw (← e, ← f)
 
-module _ (n : ℕ) (x : List ℕ) where
-  pub is_unknown : get_or x 5 0 ≡ unknown → 9 ≡ unknown_fault (parse n x)
-  unfolding unknown_fault known parse
-  is_unknown e = simp (eq-eqb _ _ e)
+-- ---- the words of a bench that is well shaped
 
-  pub is_known : (get_or x 5 0 ≡ unknown → ⊥) → 0 ≡ unknown_fault (parse n x)
-  unfolding unknown_fault known parse
-  is_known e = simp (ne_eqb _ _ e)
+pub first_word : (n m : ℕ) (x : List ℕ) → WellShaped n m (parse n x) → get_or x 0 0 ≡ n
+unfolding parse
+first_word n m x w = w.same_n
 
-module _ (map : List ℕ) (n m : ℕ) (b : Bench) {f : ℕ} (p : f ≡ done_fault b) where
-  pub finished_done : (f ≡ 0 → ⊥) → f ≡ finished_fault map n m b
-  unfolding finished_fault
-  finished_done h = rw (← p) (sym (or_else_first _ _ h))
-
-  module _ (z : f ≡ 0) {g : ℕ} (q : g ≡ unknown_fault b) where
-    pub finished_known : (g ≡ 0 → ⊥) → g ≡ finished_fault map n m b
-    unfolding finished_fault
-    finished_known h = rw (← p, ← q) (sym (or_else_second _ _ z ∙ or_else_first _ _ h))
-
-    pub finished_trails : g ≡ 0 → trails_fault map n m b ≡ finished_fault map n m b
-    unfolding finished_fault
-    finished_trails h = rw (← p, ← q) (sym (or_else_second _ _ z ∙ or_else_second _ _ h))
-
-module _ (n : ℕ) (x : List ℕ) where
-  pub first_word : {m : ℕ} → WellShaped n m (parse n x) → get_or x 0 0 ≡ n
-  unfolding parse
-  first_word w = w.same_n
-
-  pub rule_by : {f g marks : List ℕ} → f ≡ half Forward (parse n x) → g ≡ half Backward (parse n x) → marks ≡ (parse n x).marks
-      → {r : ℕ} → r ≡ marks_fault n (get_or x 4 0) (get_or x 5 0) f g marks → r ≡ rule_fault n (parse n x)
-  unfolding rule_fault parse
-  rule_by p q w e = e ∙ rw (p, q, w)
-
-  pub root_by : (s : Side) (map : List ℕ) (m : ℕ) {k f : ℕ} → k ≡ root s (parse n x) → f ≡ sound_fault s map n m k (half s (parse n x)) → f ≡ sound_fault s map n m (root s (parse n x)) (half s (parse n x))
-  root_by s map m p e = e ∙ rw p
-
-  pub start_is : get_or x 2 0 ≡ root Forward (parse n x)
-  unfolding parse
-  start_is = refl
-
-  pub target_is : get_or x 3 0 ≡ root Backward (parse n x)
-  unfolding parse
-  target_is = refl
-
-pub trails_by : (map : List ℕ) (n m : ℕ) (b : Bench) {f g k i r : ℕ} → f ≡ sound_fault Forward map n m b.start b.forward → g ≡ sound_fault Backward map n m b.target b.backward
-    → k ≡ rule_fault n b → i ≡ or_else g k → r ≡ or_else f i → r ≡ trails_fault map n m b
-unfolding trails_fault
-trails_by map n m b p q w j e = e ∙ rw (j, p, q, w)
-
--- ---- sound trails and marks can be walked
+-- ---- a finished bench
 
 by_side_lem : {map : List ℕ} {n m : ℕ} (b : Bench) → SoundHalf Forward map n m b.start b.forward → SoundHalf Backward map n m b.target b.backward
     → (s : Side) → SoundHalf s map n m (root s b) (half s b)
 by_side_lem b f g Forward = f
 by_side_lem b f g Backward = g
 
-pub walkable_by : {map : List ℕ} {n m : ℕ} {x : List ℕ} → Ready map n m x → trails_fault map n m (parse n x) ≡ 0 → Walkable map n (parse n x).forward (parse n x).backward (parse n x).marks
-unfolding trails_fault rule_fault
-walkable_by {map} {n} {m} {x} r z =
-    let b = parse n x in
-    let a = or_else_none _ _ z in
+pub finished_walkable : {map : List ℕ} {n m : ℕ} {b : Bench} → Valid n m map → WellShaped n m b → finished_fault map n m b ≡ 0 → Walkable map n b.forward b.backward b.marks
+unfolding finished_fault trails_fault rule_fault
+finished_walkable {map} {n} {m} {b} valid shaped z =
+    let a = or_else_none _ _ (or_else_none _ _ (or_else_none _ _ z).1).1 in
     let c = or_else_none _ _ a.1 in
-    let there = fault_sound Forward map n m b.start b.forward r.shaped.start_in a.0 in
-    let back = fault_sound Backward map n m b.target b.backward r.shaped.target_in c.0 in
-    let marks = fault_marks n b.stretch b.optimum b.forward b.backward b.marks r.shaped.marks_room c.1 in
-    sound_walkable b r.valid r.shaped (by_side_lem b there back) (rw r.shaped.same_n marks)
+    let there = fault_sound Forward map n m b.start b.forward shaped.start_in a.0 in
+    let back = fault_sound Backward map n m b.target b.backward shaped.target_in c.0 in
+    let marks = fault_marks n b.stretch b.optimum b.forward b.backward b.marks shaped.marks_room c.1 in
+    sound_walkable b valid shaped (by_side_lem b there back) (rw shaped.same_n marks)
+
+-- of a marked crossing
+pub finished_routed : {map : List ℕ} {n m : ℕ} {b : Bench} (crossing : ℕ) → Valid n m map → WellShaped n m b → finished_fault map n m b ≡ 0 → Between 1 n crossing → (get_or b.marks (crossing - 1) 0 ≡ 0 → ⊥)
+    → Trails Forward map n b.forward × Trails Backward map n b.backward × Settled n b.forward crossing × Settled n b.backward crossing
+finished_routed {b = b} crossing valid shaped z inside marked =
+    let w = finished_walkable valid shaped z in
+    let one : get_or b.marks (crossing - 1) 0 ≡ 1 = omega (arith, marked, shaped.marks_in crossing inside) in
+    (w.forward, w.backward, w.marked_forward crossing inside one, w.marked_backward crossing inside one)
+
+-- the same of its parts as they are lent on
+module _ {map : List ℕ} {n m : ℕ} (x : List ℕ) (valid : Valid n m map) (shaped : WellShaped n m (parse n x)) (z : finished_fault map n m (parse n x) ≡ 0)
+    {i k : ℕ} {f g : List ℕ} (same : i ≡ n) (e : k ≡ i) (p : f ≡ half Forward (parse i x)) (q : g ≡ half Backward (parse i x)) where
+  pub walkable_parts : {marks : List ℕ} → marks ≡ (parse i x).marks → Walkable map k f g marks
+  walkable_parts w = rw (e, p, q, w, same) (finished_walkable valid shaped z)
+
+  pub routed_parts : (crossing : ℕ) → Between 1 n crossing → (get_or (parse n x).marks (crossing - 1) 0 ≡ 0 → ⊥) → Trails Forward map k f × Trails Backward map k g × Settled k f crossing × Settled k g crossing
+  routed_parts crossing inside marked = rw (e, p, q, same) (finished_routed crossing valid shaped z inside marked)

@@ -1,3 +1,3 @@
-pub mod Areas
-pub mod Asked
 pub mod Laws
+pub mod Areas
+pub mod Routes

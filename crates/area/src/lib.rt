@@ -1,131 +1,137 @@
 // The area and the routes of a finished bench: what is refused, and what is filled.
 #![tactic(auto)]
 
-ghost use Rattle.std.specs.Prelude.{◌≡◌, ℕ, ◌-◌, ◌≤◌, length, get_or};
+ghost use Rattle.std.specs.Prelude.{◌≡◌, ℕ, ◌-◌, ◌≤◌, length, get_or, IfOk};
 ghost use Rattle.std.proofs.lemmas.List.Edits.{sets};
 ghost use Rattle.limits.specs.Limits.{Between};
-ghost use Rattle.map.specs.Map.{Valid};
-ghost use Rattle.shape.specs.Bench.{half, bench_words, parse, WellShaped};
+ghost use Rattle.limits.specs.Refusals.{fault_of};
+ghost use Rattle.shape.specs.Bench.{half, root, parse};
 ghost use Rattle.trail.specs.Sound.{sound_fault};
 ghost use Rattle.route.specs.Area.{mask_of, route_of};
-ghost use Rattle.area.specs.Asked.{Routed};
 ghost use Rattle.area.specs.Finished.{done_fault, unknown_fault, rule_fault, trails_fault, finished_fault, area_fault, asked_fault, route_fault};
 
+use limits::Refusal;
 use map::Side;
+use shaped::Shaped;
 
-// An unknown optimum.
-const UNKNOWN: u32 = 4294967295;
+// ---- a finished bench
 
-// 8 where a half isn't done.
-fn done_fault(bench: &[u32], n: usize) -> u32
-    requires { (n ≤ 4096) × (bench_words n ≤ length bench.now) × (get_or bench.now 0 0 ≡ n) }
-    ensures { result ≡ done_fault (parse n bench.now) }
+// Both halves are done.
+#[tactic(auto, using(crate::proofs::Laws::forward_open, crate::proofs::Laws::backward_open, crate::proofs::Laws::both_done, crate::proofs::Laws::first_word))]
+fn check_done(lent: &Shaped) -> Result<(), Refusal>
+    ensures { fault_of result ≡ done_fault (parse lent.now.roads.n lent.now.bench.words.now) }
 {
-    if !rules::is_done(bench, n, Side::Forward) {
-        return 8;
+    if !rules::is_done(&lent.bench, Side::Forward) || !rules::is_done(&lent.bench, Side::Backward) {
+        return Err(Refusal::NotDone);
     }
-    if !rules::is_done(bench, n, Side::Backward) {
-        return 8;
-    }
-    0
+    Ok(())
 }
 
-// 9 where the optimum is unknown.
-fn unknown_fault(bench: &[u32]) -> u32
-    requires { 6 ≤ length bench.now }
-    ensures { (n : ℕ) → result ≡ unknown_fault (parse n bench.now) }
+// A route is known.
+#[tactic(auto, unfolding(crate::specs::Finished::unknown_fault, shape::specs::Rules::known))]
+fn check_known(lent: &Shaped) -> Result<(), Refusal>
+    ensures { fault_of result ≡ unknown_fault (parse lent.now.roads.n lent.now.bench.words.now) }
 {
-    if bench[5] == UNKNOWN {
-        return 9;
+    if lent.bench.optimum() == limits::UNKNOWN {
+        return Err(Refusal::NoRoute);
     }
-    0
+    Ok(())
 }
 
-// 7 where the trails of a half are not sound.
-fn side_fault(map: &[u32], n: usize, m: usize, side: Side, root: u32, bench: &[u32]) -> u32
-    requires { Valid n m map.now × (bench_words n ≤ length bench.now) × WellShaped n m (parse n bench.now) }
-    ensures { result ≡ sound_fault side map.now n m root (half side (parse n bench.now)) }
+// The marks are what rule 4 gives.
+#[tactic(auto, unfolding(crate::specs::Finished::rule_fault))]
+fn check_marks(lent: &Shaped) -> Result<(), Refusal>
+    ensures { fault_of result ≡ rule_fault lent.now.roads.n (parse lent.now.roads.n lent.now.bench.words.now) }
 {
-    let a = shape::half_at(side, n);
-    let e = a + 3 * n;
-    trail::sound_fault(map, &bench[a..e], n, m, side, root as usize)
-}
-
-// 7 where a mark is not what rule 4 gives.
-fn marks_fault(bench: &[u32], n: usize) -> u32
-    requires { (n ≤ 4096) × (bench_words n ≤ length bench.now) }
-    ensures { result ≡ rule_fault n (parse n bench.now) }
-{
-    let a = shape::half_at(Side::Forward, n);
-    let b = shape::half_at(Side::Backward, n);
-    let c = shape::marks_at(n);
-    let e = shape::bench_words(n);
-    trail::marks_fault(
-        &bench[a..b],
-        &bench[b..c],
-        &bench[c..e],
-        n,
-        bench[4],
-        bench[5],
+    let bench = &lent.bench;
+    let there = bench.half(Side::Forward);
+    let back = bench.half(Side::Backward);
+    trail::check_marks(
+        &there,
+        &back,
+        bench.marks(),
+        bench.stretch(),
+        bench.optimum(),
     )
 }
 
-// 7 where trails or marks are not sound.
-fn trails_fault(map: &[u32], n: usize, m: usize, bench: &[u32]) -> u32
-    requires { Valid n m map.now × (bench_words n ≤ length bench.now) × WellShaped n m (parse n bench.now) }
-    ensures { result ≡ trails_fault map.now n m (parse n bench.now) }
+// The trails of a half are sound.
+fn check_half(lent: &Shaped, side: Side) -> Result<(), Refusal>
+    ensures { fault_of result ≡ sound_fault side lent.now.roads.map.now lent.now.roads.n lent.now.roads.m (root side (parse lent.now.roads.n lent.now.bench.words.now)) (half side (parse lent.now.roads.n lent.now.bench.words.now)) }
 {
-    let there = side_fault(map, n, m, Side::Forward, bench[2], bench);
-    let back = side_fault(map, n, m, Side::Backward, bench[3], bench);
-    limits::or_else(there, limits::or_else(back, marks_fault(bench, n)))
+    let bench = &lent.bench;
+    trail::check_sound(&lent.roads, &bench.half(side), side, bench.root(side))
 }
 
-fn finished_fault(map: &[u32], n: usize, m: usize, bench: &[u32]) -> u32
-    requires { Valid n m map.now × (bench_words n ≤ length bench.now) × WellShaped n m (parse n bench.now) }
-    ensures { result ≡ finished_fault map.now n m (parse n bench.now) }
+// Trails and marks are sound.
+#[tactic(auto, using(limits::proofs::Refused::refused_first, limits::proofs::Refused::passed_first), unfolding(crate::specs::Finished::trails_fault))]
+fn check_trails(lent: &Shaped) -> Result<(), Refusal>
+    ensures { fault_of result ≡ trails_fault lent.now.roads.map.now lent.now.roads.n lent.now.roads.m (parse lent.now.roads.n lent.now.bench.words.now) }
 {
-    let done = done_fault(bench, n);
-    if done != 0 {
-        return done;
-    }
-    let known = unknown_fault(bench);
-    if known != 0 {
-        return known;
-    }
-    trails_fault(map, n, m, bench)
+    check_half(lent, Side::Forward)?;
+    check_half(lent, Side::Backward)?;
+    check_marks(lent)
 }
 
-// The number of refusal of an area call whose mask has room for so many bytes.
-pub fn area_fault(map: &[u32], n: u32, m: u32, bench: &[u32], locality: u32, room: usize) -> u32
-    ensures { result ≡ area_fault map.now n m bench.now locality room }
+#[tactic(auto, using(limits::proofs::Refused::refused_first, limits::proofs::Refused::passed_first), unfolding(crate::specs::Finished::finished_fault))]
+fn check_finished(lent: &Shaped) -> Result<(), Refusal>
+    ensures { fault_of result ≡ finished_fault lent.now.roads.map.now lent.now.roads.n lent.now.roads.m (parse lent.now.roads.n lent.now.bench.words.now) }
 {
-    let lent = shaped::lent_fault(map, n, m, limits::locality_fault(locality), bench);
-    if lent != 0 {
-        return lent;
+    check_done(lent)?;
+    check_known(lent)?;
+    check_trails(lent)
+}
+
+// What is lent of a finished bench.
+#[derive(Clone, Copy)]
+pub struct Finished<'a, 'b> {
+    pub lent: Shaped<'a, 'b>,
+    ghost finished: { finished_fault lent.roads.map.now lent.roads.n lent.roads.m (parse lent.roads.n lent.bench.words.now) ≡ 0 },
+}
+
+impl<'a, 'b> Finished<'a, 'b> {
+    fn new(lent: Shaped<'a, 'b>) -> Result<Finished<'a, 'b>, Refusal>
+        ensures fault { fault_of result ≡ finished_fault lent.entry.roads.map.now lent.entry.roads.n lent.entry.roads.m (parse lent.entry.roads.n lent.entry.bench.words.now) }
+        ensures lent { IfOk result (λ f. (f.lent.roads.map.now ≡ lent.entry.roads.map.now) × (f.lent.roads.n ≡ lent.entry.roads.n) × (f.lent.bench.words.now ≡ lent.entry.bench.words.now)) }
+    {
+        check_finished(&lent)?;
+        Ok(Finished { lent })
     }
-    let mask = limits::room_fault(n as usize, room);
-    if mask != 0 {
-        return mask;
-    }
-    finished_fault(map, n as usize, m as usize, bench)
+}
+
+// ---- the area
+
+// What is lent to an area call whose mask has room for so many bytes.
+#[tactic(auto, using(limits::proofs::Refused::refused_first, limits::proofs::Refused::passed_first), unfolding(crate::specs::Finished::area_fault))]
+pub fn check_area<'a, 'b>(
+    map: &'a [u32],
+    n: u32,
+    m: u32,
+    bench: &'b [u32],
+    locality: u32,
+    room: usize,
+) -> Result<Finished<'a, 'b>, Refusal>
+    ensures fault { fault_of result ≡ area_fault map.now n m bench.now locality room }
+    ensures lent { IfOk result (λ f. (f.lent.roads.map.now ≡ map.now) × (f.lent.roads.n ≡ n) × (f.lent.bench.words.now ≡ bench.now)) }
+{
+    let lent = shaped::check_lent(map, n, m, limits::check_locality(locality), bench)?;
+    limits::check_room(n as usize, room)?;
+    Finished::new(lent)
 }
 
 // Fills the first n bytes of the mask.
-pub fn fill_area(map: &[u32], n: u32, m: u32, bench: &[u32], locality: u32, mask: &mut [u8])
-    requires { area_fault map.now n m bench.now locality (length mask.old) ≡ 0 }
-    ensures { mask.new ≡ sets mask.old 0 (mask_of map.now locality (parse n bench.now)) }
+pub fn fill_area(finished: &Finished, locality: u32, mask: &mut [u8])
+    requires { finished.now.lent.roads.n ≤ length mask.old }
+    ensures { mask.new ≡ sets mask.old 0 (mask_of finished.now.lent.roads.map.now locality (parse finished.now.lent.roads.n finished.now.lent.bench.words.now)) }
 {
-    let crossings = n as usize;
-    let a = shape::half_at(Side::Forward, crossings);
-    let b = shape::half_at(Side::Backward, crossings);
-    let c = shape::marks_at(crossings);
-    let e = shape::bench_words(crossings);
+    let bench = &finished.lent.bench;
+    let there = bench.half(Side::Forward);
+    let back = bench.half(Side::Backward);
     route::fill_mask(
-        map,
-        &bench[a..b],
-        &bench[b..c],
-        &bench[c..e],
-        crossings,
+        finished.lent.roads.map,
+        &there,
+        &back,
+        bench.marks(),
         locality,
         mask,
     );
@@ -133,52 +139,54 @@ pub fn fill_area(map: &[u32], n: u32, m: u32, bench: &[u32], locality: u32, mask
 
 // ---- the route of an asked crossing
 
-// The length of the route.
-fn route_length(map: &[u32], n: usize, bench: &[u32], crossing: u32) -> usize
-    requires { Routed map.now n bench.now crossing }
-    ensures { result ≡ length (route_of map.now (parse n bench.now) crossing) }
+fn route_length(finished: &Finished, crossing: u32) -> usize
+    requires { Between 1 finished.now.lent.roads.n crossing × (get_or (parse finished.now.lent.roads.n finished.now.lent.bench.words.now).marks (crossing - 1) 0 ≡ 0 → ⊥) }
+    ensures { result ≡ length (route_of finished.now.lent.roads.map.now (parse finished.now.lent.roads.n finished.now.lent.bench.words.now) crossing) }
 {
-    let a = shape::half_at(Side::Forward, n);
-    let b = shape::half_at(Side::Backward, n);
-    let c = shape::marks_at(n);
-    route::route_length(map, &bench[a..b], &bench[b..c], n, crossing)
+    let bench = &finished.lent.bench;
+    let there = bench.half(Side::Forward);
+    let back = bench.half(Side::Backward);
+    route::route_length(finished.lent.roads.map, &there, &back, crossing)
 }
 
-// 10 where the asked crossing has mark 0, then 3 where its route has no room.
-fn asked_fault(map: &[u32], n: usize, bench: &[u32], crossing: u32, room: usize) -> u32
-    requires { (n ≤ 4096) × (bench_words n ≤ length bench.now) × Between 1 n crossing × ((get_or (parse n bench.now).marks (crossing - 1) 0 ≡ 0 → ⊥) → Routed map.now n bench.now crossing) }
-    ensures { result ≡ asked_fault map.now (parse n bench.now) crossing room }
+// The asked crossing is marked, and its route has room.
+#[tactic(auto, using(limits::proofs::Refused::refused_first, limits::proofs::Refused::passed_first, crate::proofs::Routes::unmarked), unfolding(crate::specs::Finished::asked_fault))]
+fn check_asked(finished: &Finished, crossing: u32, room: usize) -> Result<(), Refusal>
+    requires { Between 1 finished.now.lent.roads.n crossing }
+    ensures { fault_of result ≡ asked_fault finished.now.lent.roads.map.now (parse finished.now.lent.roads.n finished.now.lent.bench.words.now) crossing room }
 {
-    let at = shape::marks_at(n) + (crossing as usize - 1);
-    if bench[at] == 0 {
-        return 10;
+    if finished.lent.bench.marks()[crossing as usize - 1] == 0 {
+        return Err(Refusal::Unmarked);
     }
-    limits::room_fault(route_length(map, n, bench, crossing), room)
+    limits::check_room(route_length(finished, crossing), room)
 }
 
-// The number of refusal of the route call.
-pub fn route_fault(map: &[u32], n: u32, m: u32, bench: &[u32], crossing: u32, room: usize) -> u32
-    ensures { result ≡ route_fault map.now n m bench.now crossing room }
+// What is lent to a route call whose buffer has room for so many words.
+#[tactic(auto, using(limits::proofs::Refused::refused_first, limits::proofs::Refused::passed_first), unfolding(crate::specs::Finished::route_fault))]
+pub fn check_route<'a, 'b>(
+    map: &'a [u32],
+    n: u32,
+    m: u32,
+    bench: &'b [u32],
+    crossing: u32,
+    room: usize,
+) -> Result<Finished<'a, 'b>, Refusal>
+    ensures fault { fault_of result ≡ route_fault map.now n m bench.now crossing room }
+    ensures lent { IfOk result (λ f. (f.lent.roads.map.now ≡ map.now) × (f.lent.roads.n ≡ n) × (f.lent.bench.words.now ≡ bench.now)) }
 {
-    let lent = shaped::lent_fault(map, n, m, limits::crossing_fault(n, crossing), bench);
-    if lent != 0 {
-        return lent;
-    }
-    let crossings = n as usize;
-    let finished = finished_fault(map, crossings, m as usize, bench);
-    if finished != 0 {
-        return finished;
-    }
-    asked_fault(map, crossings, bench, crossing, room)
+    let lent = shaped::check_lent(map, n, m, limits::check_crossing(n, crossing), bench)?;
+    let finished = Finished::new(lent)?;
+    check_asked(&finished, crossing, room)?;
+    Ok(finished)
 }
 
 // Writes the route over the first words of the buffer; answers its length.
-pub fn write_route(map: &[u32], n: usize, bench: &[u32], crossing: u32, buffer: &mut [u32]) -> usize
-    requires { Routed map.now n bench.now crossing × (length (route_of map.now (parse n bench.now) crossing) ≤ length buffer.old) }
-    ensures { (result ≡ length (route_of map.now (parse n bench.now) crossing)) × (buffer.new ≡ sets buffer.old 0 (route_of map.now (parse n bench.now) crossing)) }
+pub fn write_route(finished: &Finished, crossing: u32, buffer: &mut [u32]) -> usize
+    requires { Between 1 finished.now.lent.roads.n crossing × (asked_fault finished.now.lent.roads.map.now (parse finished.now.lent.roads.n finished.now.lent.bench.words.now) crossing (length buffer.old) ≡ 0) }
+    ensures { (result ≡ length (route_of finished.now.lent.roads.map.now (parse finished.now.lent.roads.n finished.now.lent.bench.words.now) crossing)) × (buffer.new ≡ sets buffer.old 0 (route_of finished.now.lent.roads.map.now (parse finished.now.lent.roads.n finished.now.lent.bench.words.now) crossing)) }
 {
-    let a = shape::half_at(Side::Forward, n);
-    let b = shape::half_at(Side::Backward, n);
-    let c = shape::marks_at(n);
-    route::write_route(map, &bench[a..b], &bench[b..c], n, crossing, buffer)
+    let bench = &finished.lent.bench;
+    let there = bench.half(Side::Forward);
+    let back = bench.half(Side::Backward);
+    route::write_route(finished.lent.roads.map, &there, &back, crossing, buffer)
 }
