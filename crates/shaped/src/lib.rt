@@ -8,8 +8,8 @@ ghost use Rattle.shape.proofs.Props.{well_shaped_prop};
 ghost use Rattle.shaped.specs.Shape.{unlike, unseen_fault, seen_fault, entry_fault, half_fault, marks_fault, size_fault, ends_fault, optimum_fault, head_fault, shape_fault};
 ghost use Rattle.shaped.specs.Lent.{lent_fault};
 
-use half::{Entry, Half};
-use limits::Refusal;
+use half::{Entry, Half, OPEN, SETTLED, UNSEEN};
+use limits::{CEILING, Refusal, UNKNOWN};
 use map::{Roads, Side};
 use shape::Bench;
 
@@ -28,7 +28,7 @@ fn check_same(a: u32, b: u32) -> Result<(), Refusal>
 fn check_unseen(e: Entry) -> Result<(), Refusal>
     ensures { fault_of result ≡ unseen_fault e }
 {
-    check_same(e.dist, limits::UNKNOWN)?;
+    check_same(e.dist, UNKNOWN)?;
     check_same(e.link, 0)
 }
 
@@ -36,16 +36,16 @@ fn check_unseen(e: Entry) -> Result<(), Refusal>
 fn check_seen(m: u32, e: Entry) -> Result<(), Refusal>
     ensures { fault_of result ≡ seen_fault m e }
 {
-    limits::check_range(0, limits::CEILING, Refusal::Shape, e.dist)?;
+    limits::check_range(0, CEILING, Refusal::Shape, e.dist)?;
     limits::check_range(0, m, Refusal::Shape, e.link)?;
-    limits::check_range(1, 2, Refusal::Shape, e.state)
+    limits::check_range(OPEN, SETTLED, Refusal::Shape, e.state)
 }
 
 #[tactic(auto, unfolding(crate::specs::Shape::entry_fault))]
 fn check_entry(m: u32, e: Entry) -> Result<(), Refusal>
     ensures { fault_of result ≡ entry_fault m e }
 {
-    if e.state == 0 {
+    if e.state == UNSEEN {
         return check_unseen(e);
     }
     check_seen(m, e)
@@ -65,10 +65,8 @@ fn check_half(m: u32, half: Half) -> Result<(), Refusal>
 fn check_marks(marks: &[u32]) -> Result<(), Refusal>
     ensures { fault_of result ≡ marks_fault (length marks.now) marks.now }
 {
-    if !limits::all_pass(
-        marks.len(),
-        |v| limits::check_range(0, 1, Refusal::Shape, marks[v - 1]),
-    ) {
+    let check_mark = |v| limits::check_range(0, 1, Refusal::Shape, marks[v - 1]);
+    if !limits::all_pass(marks.len(), check_mark) {
         return Err(Refusal::Shape);
     }
     Ok(())
@@ -78,35 +76,35 @@ fn check_marks(marks: &[u32]) -> Result<(), Refusal>
 fn check_optimum(optimum: u32) -> Result<(), Refusal>
     ensures { fault_of result ≡ optimum_fault optimum }
 {
-    if optimum == limits::UNKNOWN {
+    if optimum == UNKNOWN {
         return Ok(());
     }
-    limits::check_range(0, limits::CEILING, Refusal::Shape, optimum)
+    limits::check_range(0, CEILING, Refusal::Shape, optimum)
 }
 
 #[tactic(auto, using(limits::proofs::Refused::refused_first, limits::proofs::Refused::passed_first), unfolding(crate::specs::Shape::size_fault, shape::specs::Bench::parse))]
-fn check_size(n: u32, m: u32, bench: &Bench) -> Result<(), Refusal>
-    ensures { fault_of result ≡ size_fault n m (parse bench.now.n bench.now.words.now) }
+fn check_size(roads: &Roads, bench: &Bench) -> Result<(), Refusal>
+    ensures { fault_of result ≡ size_fault roads.now.n roads.now.m (parse bench.now.n bench.now.words.now) }
 {
-    check_same(bench.words[0], n)?;
-    check_same(bench.words[1], m)
+    check_same(bench.words[0], roads.n)?;
+    check_same(bench.words[1], roads.m)
 }
 
 #[tactic(auto, using(limits::proofs::Refused::refused_first, limits::proofs::Refused::passed_first), unfolding(crate::specs::Shape::ends_fault))]
-fn check_ends(n: u32, bench: &Bench) -> Result<(), Refusal>
-    ensures { fault_of result ≡ ends_fault n (parse bench.now.n bench.now.words.now) }
+fn check_ends(roads: &Roads, bench: &Bench) -> Result<(), Refusal>
+    ensures { fault_of result ≡ ends_fault roads.now.n (parse bench.now.n bench.now.words.now) }
 {
-    limits::check_range(1, n, Refusal::Shape, bench.root(Side::Forward))?;
-    limits::check_range(1, n, Refusal::Shape, bench.root(Side::Backward))
+    limits::check_range(1, roads.n, Refusal::Shape, bench.root(Side::Forward))?;
+    limits::check_range(1, roads.n, Refusal::Shape, bench.root(Side::Backward))
 }
 
 // Words 0 to 5.
 #[tactic(auto, using(limits::proofs::Refused::refused_first, limits::proofs::Refused::passed_first), unfolding(crate::specs::Shape::head_fault))]
-fn check_head(n: u32, m: u32, bench: &Bench) -> Result<(), Refusal>
-    ensures { fault_of result ≡ head_fault n m (parse bench.now.n bench.now.words.now) }
+fn check_head(roads: &Roads, bench: &Bench) -> Result<(), Refusal>
+    ensures { fault_of result ≡ head_fault roads.now.n roads.now.m (parse bench.now.n bench.now.words.now) }
 {
-    check_size(n, m, bench)?;
-    check_ends(n, bench)?;
+    check_size(roads, bench)?;
+    check_ends(roads, bench)?;
     limits::check_range(1000, 4000, Refusal::Shape, bench.stretch())?;
     check_optimum(bench.optimum())
 }
@@ -117,7 +115,7 @@ fn check_shape(roads: &Roads, bench: &Bench) -> Result<(), Refusal>
     requires { bench.now.n ≡ roads.now.n }
     ensures { fault_of result ≡ shape_fault roads.now.n roads.now.m (parse roads.now.n bench.now.words.now) }
 {
-    check_head(roads.n, roads.m, bench)?;
+    check_head(roads, bench)?;
     check_half(roads.m, bench.half(Side::Forward))?;
     check_half(roads.m, bench.half(Side::Backward))?;
     check_marks(bench.marks())
