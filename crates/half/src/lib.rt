@@ -90,6 +90,7 @@ fn store(half: &mut [u32], n: usize, v: usize, e: Entry)
 }
 
 // Opening: the root is open at distance 0, all else is unseen.
+#[tactic(auto, using(crate::proofs::Opening::blank_by), unfolding(crate::specs::Half::open_half))]
 pub fn open_half(half: &mut [u32], n: usize, root: usize)
     requires { Between 1 n root × (length half.old ≡ 3 * n) }
     ensures { half.new ≡ open_half n root }
