@@ -1,5 +1,5 @@
 -- Laws of the lines of a text: one line after another, the place where each ends, and where LF stands in them. Assumes nothing.
-use mathlib.Core.Path.{◌≡◌, refl, ap, ◌∙◌}
+use mathlib.Core.Path.{◌≡◌, refl, sym, ap, ap₂, ◌∙◌}
 use mathlib.Core.Bool.{Bool, true, false, cond}
 use mathlib.Core.List.{List, [], ◌∷◌, ◌++◌, append_assoc}
 use Prim.Native.Nat.{ℕ, zero, suc, ◌+◌, ◌-◌, ◌≤◌, ◌<◌}
@@ -8,7 +8,9 @@ use native.Mathlib.Omega.{arith}
 use borrow.Author.Tests.{eq-eqb, ne_eqb, eqb-false}
 use lib.Dec.{eqb}
 use lib.ListN.{length, get_or, take, drop, length-drop, drop_of_length-le}
-use lib.Seq.{drop-cons, drop-drop}
+use lib.Seq.{drop-cons, drop-drop, take-append_seam, drop-append_seam}
+use Rattle.std.specs.Prelude.{min}
+use Rattle.std.specs.List.{IsFirstMatchOrLen}
 use Rattle.line.specs.Good.{All, none, more, NoLf}
 use Rattle.line.specs.Lines.{onto, lines_of, first_line, line_end}
 
@@ -52,6 +54,30 @@ lines_first b (x ∷ xs) = go (eqb b 10) (lines_first x xs)
         ≡ cond t (b ∷ []) (b ∷ first_line (x ∷ xs)) ∷ lines_of (drop (length (cond t (b ∷ []) (b ∷ first_line (x ∷ xs)))) (b ∷ x ∷ xs))
     go true e = refl
     go false e = ap (onto b) e
+
+-- ---- the bytes up to the first LF and with it, as `split_inclusive` cuts them off
+
+first_size : (s : List ℕ) (i : ℕ) → IsFirstMatchOrLen (λ b. eqb b 10) s i → length (first_line s) ≡ min (i + 1) (length s)
+unfolding first_line
+first_size [] i h = omega arith
+first_size (b ∷ bs) zero h =
+    let e : eqb b 10 ≡ true = h.1 (omega arith) 0 in
+    rw e (omega arith)
+first_size (b ∷ bs) (suc i) h =
+    let e : eqb b 10 ≡ false = h.0 0 0 (omega arith) (omega arith) in
+    let rest = first_size bs i (λ k d low high. h.0 (suc k) d (omega arith) (omega arith), λ g. h.1 (omega arith)) in
+    rw e (omega (arith, rest))
+
+-- what its `next` ensures, of a closure that asks for LF
+pub cut_off : (Q R : (ℕ → Bool) → Type 0) (s x t : List ℕ)
+    → (s ≡ x ++ t) × ((i : ℕ) × (length x ≡ min (i + 1) (length s)) × ((p : ℕ → Bool) → Q p → R p × IsFirstMatchOrLen p s i)) × (0 < length s)
+    → Q (λ b. eqb b 10) → lines_of s ≡ x ∷ lines_of t
+cut_off Q R [] x t step q = absurd (omega (arith, step.2))
+cut_off Q R (b ∷ bs) x t step q =
+    let size : length (first_line (b ∷ bs)) ≡ length x = first_size (b ∷ bs) step.1.0 (step.1.2 (λ b. eqb b 10) q).1 ∙ sym step.1.1 in
+    let first : first_line (b ∷ bs) ≡ x = sym (first_of (b ∷ bs)).begins ∙ ap (λ (n : ℕ). take n (b ∷ bs)) size ∙ ap (take (length x)) step.0 ∙ take-append_seam x t in
+    let rest : drop (length (first_line (b ∷ bs))) (b ∷ bs) ≡ t = ap (λ (n : ℕ). drop n (b ∷ bs)) size ∙ ap (drop (length x)) step.0 ∙ drop-append_seam x t in
+    lines_first b bs ∙ ap₂ (λ (l r : List ℕ). l ∷ lines_of r) first rest
 
 -- ---- the place where a line ends
 

@@ -3,11 +3,10 @@ use mathlib.Core.Path.{◌≡◌, refl, ◌∙◌}
 use mathlib.Core.List.{List, [], ◌∷◌}
 use Prim.Native.Nat.{ℕ, ◌+◌, ◌-◌, ◌≤◌, ◌<◌}
 use native.Mathlib.Omega.{arith}
-use lib.ListN.{length, take, drop, length-append, drop_of_length-le}
+use lib.ListN.{length, take, drop, length-append}
 use lib.Seq.{sets}
 use Rattle.std.specs.Prelude.{Result, Ok, Err}
 use Rattle.limits.proofs.Lists.{sets_append}
-use Rattle.limits.specs.Said.{refused}
 use Rattle.line.specs.Line.{line_of}
 use Rattle.line.specs.Lines.{lines_of, first_line, line_end}
 use Rattle.line.proofs.Lines.{first_of, line_ends}
@@ -15,10 +14,12 @@ use Rattle.line.specs.declared.Field.{Field}
 use Rattle.line.specs.declared.Line.{Line}
 use Rattle.line.specs.declared.Line.TheVariants.{Link}
 use Rattle.line.specs.declared.NoLine.{NoLine}
-use Rattle.step.specs.Step.{FaultAt, taken}
+use Rattle.step.specs.Step.{faulted, taken}
 use Rattle.text.specs.Held.{line_at}
-use Rattle.text.specs.Text.{finish, read_lines, line_words, words_of}
+use Rattle.text.specs.Text.{said, at_line, finish, read_lines, line_words, words_of}
 use Rattle.step.specs.declared.State.{State}
+use Rattle.step.specs.declared.Fault.{Fault}
+use Rattle.text.specs.declared.Refused.{Refused}
 
 -- ---- the line at a place
 
@@ -45,17 +46,22 @@ lines_on s at h =
 -- ---- the first pass
 
 module _ (room : ℕ) (st : State) (at : ℕ) (l : List ℕ) (ls : List (List ℕ)) where
-  pub read_stop : {fault : FaultAt} → Err fault ≡ taken room st (line_of l) → refused fault.number (at ∷ []) ≡ read_lines room st at (l ∷ ls)
+  pub read_stop : (x : Result State Fault) {r : Refused} → faulted x ≡ taken room st (line_of l) → Err r ≡ at_line at x → said (Err r) ≡ read_lines room st at (l ∷ ls)
   unfolding read_lines
-  read_stop e = rw (← e)
+  read_stop (Ok then) e f = absurd cc
+  read_stop (Err fault) {r} e f =
+      let same : ◌≡◌ {A = Refused} r (record { refusal = fault.refusal; line = at }) = cc in
+      rw (← e, same)
 
-  pub read_go : {next : State} → Ok next ≡ taken room st (line_of l) → read_lines room next (at + 1) ls ≡ read_lines room st at (l ∷ ls)
+  pub read_go : (x : Result State Fault) {next : State} → faulted x ≡ taken room st (line_of l) → Ok next ≡ at_line at x → read_lines room next (at + 1) ls ≡ read_lines room st at (l ∷ ls)
   unfolding read_lines
-  read_go e = rw (← e)
+  read_go (Ok then) {next} e f = let same : next ≡ then = cc in rw (← e, same)
+  read_go (Err fault) e f = absurd cc
 
-pub read_end : (room : ℕ) (st : State) (at : ℕ) (s : List ℕ) {i : ℕ} → length s ≤ i → read_lines room st at (lines_of (drop i s)) ≡ finish st at
+pub read_end : (room : ℕ) (st : State) (at : ℕ) (s : List ℕ) → length s ≡ 0 → read_lines room st at (lines_of s) ≡ finish st at
 unfolding read_lines lines_of
-read_end room st at s h = rw (drop_of_length-le s h)
+read_end room st at [] h = refl
+read_end room st at (b ∷ bs) h = absurd (omega arith)
 
 -- ---- the second pass
 
@@ -72,6 +78,7 @@ module _ (map : List ℕ) (to : ℕ) (ls rest : List (List ℕ)) (l : List ℕ) 
   unfolding words_of
   fill_more = rw e (sets_append (line_words (line_of l)) (words_of rest) map to)
 
-pub fill_end : (s : List ℕ) {i : ℕ} → length s ≤ i → words_of (lines_of (drop i s)) ≡ []
+pub fill_end : (s : List ℕ) → length s ≡ 0 → words_of (lines_of s) ≡ []
 unfolding words_of lines_of
-fill_end s h = rw (drop_of_length-le s h)
+fill_end [] h = refl
+fill_end (b ∷ bs) h = absurd (omega arith)

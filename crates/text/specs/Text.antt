@@ -9,6 +9,7 @@ use Rattle.line.specs.declared.Line.TheVariants as lines
 use Rattle.line.specs.declared.NoLine.{NoLine}
 use Rattle.step.specs.Step.{state_of, taken, step_then}
 use Rattle.step.specs.declared.State.{State}
+use Rattle.step.specs.declared.Fault.{Fault}
 use Rattle.text.specs.declared.Size.{Size}
 use Rattle.text.specs.declared.Refused.{Refused}
 
@@ -16,6 +17,11 @@ use Rattle.text.specs.declared.Refused.{Refused}
 abbrev pub said : Result Size Refused → Said
 said (Ok size) = told (size.n ∷ size.m ∷ [])
 said (Err r) = refused (number_of r.refusal) (r.line ∷ [])
+
+-- what a line does, its refusal told with the line's number
+abbrev pub at_line : ℕ → Result State Fault → Result State Refused
+at_line line (Ok st) = Ok st
+at_line line (Err f) = Err (record { refusal = f.refusal; line = line })
 
 -- ---- the whole text
 

@@ -7,11 +7,11 @@ ghost use Rattle.std.proofs.lemmas.List.Edits.{sets};
 ghost use Rattle.line.specs.Line.{line_of};
 ghost use Rattle.line.specs.Lines.{lines_of, line_end};
 ghost use Rattle.text.specs.Held.{line_at, reader_at};
-ghost use Rattle.text.specs.Text.{said, finish, read_text, line_words, words_of, map_after};
+ghost use Rattle.text.specs.Text.{said, at_line, finish, read_text, line_words, words_of, map_after};
 
 use limits::Refusal;
 use line::{Line, NoLine};
-use step::State;
+use step::{Fault, State};
 
 // The counts of crossings and of links of a text that is read.
 #[derive(Clone, Copy, Debug, PartialEq, Eq)]
@@ -44,6 +44,16 @@ fn ended(state: State, line: u32) -> Result<Size, Refused>
     })
 }
 
+// What a line does, its refusal told with the line's number.
+fn at_line(line: u32, step: Result<State, Fault>) -> Result<State, Refused>
+    ensures { result ≡ at_line line step }
+{
+    step.map_err(|fault| Refused {
+        refusal: fault.refusal,
+        line,
+    })
+}
+
 // Checks the whole text.
 fn scan(text: &[u8], room: usize) -> Result<Size, Refused>
     ensures { said result ≡ read_text room text.now }
@@ -55,22 +65,9 @@ fn scan(text: &[u8], room: usize) -> Result<Size, Refused>
         });
     }
     let mut state = State { n: 0, m: 0, k: 0 };
-    let mut at = 0;
     let mut number: u32 = 1;
-    while at < text.len() {
-        let end = line::line_end(text, at);
-        match step::take_line(&text[at..end], state, room) {
-            Err(fault) => {
-                return Err(Refused {
-                    refusal: fault.refusal,
-                    line: number,
-                });
-            }
-            Ok(next) => {
-                state = next;
-            }
-        }
-        at = end;
+    for line in text.split_inclusive(|b| *b == b'\n') {
+        state = at_line(number, step::take_line(line, state, room))?;
         number += 1;
     }
     ended(state, number)
@@ -98,11 +95,8 @@ fn fill(text: &[u8], map: &mut [u32])
     ensures { map.new ≡ sets map.old 0 (words_of (lines_of text.now)) }
 {
     let mut at = 0;
-    let mut to = 0;
-    while at < text.len() {
-        let end = line::line_end(text, at);
-        to = put_line(&text[at..end], map, to);
-        at = end;
+    for line in text.split_inclusive(|b| *b == b'\n') {
+        at = put_line(line, map, at);
     }
 }
 

@@ -1,43 +1,39 @@
--- `text::scan` meets its contract. The loop's invariant: the answer for the whole text is that of the lines from the place on. Assumes nothing.
-use native.Mathlib.Omega.{arith}
-use lib.ListN.{drop}
-use Rattle.line.specs.Lines.{lines_of}
-use Rattle.text.specs.Text.{read_text}
-use Rattle.line.proofs.Lines.{line_ends}
+-- `text::scan` meets its contract. Assumes nothing.
+use Rattle.std.proofs.Common.{◌≡◌, Err, ap, sym, ◌∙◌, arith, rules, length, length-append, lt-ltb, le-ltb}
+use Rattle.std.proofs.lemmas.List.Sorted.{answers_always}
+use Rattle.line.proofs.Lines.{cut_off}
+use Rattle.text.specs.Text.{said, read_lines, read_text}
 use Rattle.text.proofs.Laws.{read_stop, read_go, read_end}
-use mathlib.Core.Path.{sym, ◌∙◌}
-use borrow.Author.Tests.{lt-ltb, le-ltb}
-use borrow.Author.Rules.{rules}
 use Rattle.text.proofs.scan.Goals as goal
 
 pub returns-then-text-gt1048576 : goal.returns-then-text-gt1048576
 unfolding read_text
 returns-then-text-gt1048576 c = rw (lt-ltb 1048576 _ c.if-text-gt1048576.true)
 
-pub loop-at-init : goal.loop-at-init
+pub loop-line-init : goal.loop-line-init
 unfolding read_text
-loop-at-init c = (search rules, search rules, search rules, rw (le-ltb 1048576 _ c.if-text-gt1048576.false))
+loop-line-init c =
+    let e = c.split_inclusive-line-items.ensures.rest in
+    let f = c.into_iter-line-iterator.ensures.into_iter_gives in
+    rw (f, e) (omega arith, omega arith, rw (le-ltb 1048576 _ c.if-text-gt1048576.false))
 
-pub slice_bounds-take_line-count : goal.slice_bounds-take_line-count
-slice_bounds-take_line-count c = omega (arith, line_ends _ _ _ c.loop-at-test.true c.line_end-end.ensures)
+pub returns-in_err-state : goal.returns-in_err-state
+returns-in_err-state c =
+    let l = c.loop-line in
+    let told : said c.from_residual.result ≡ said (Err c.in_err-state.field-0.0) = search rules in
+    let lines = cut_off _ _ _ _ _ c.in-Some.ensures.steps (answers_always _ _ _ (λ f a r g k. search rules)) in
+    let stop = read_stop _ l.state l.number _ _ c.take_line.result c.take_line.ensures c.in_err-state.ensures in
+    told ∙ stop ∙ sym (l.invariant.2 ∙ ap (read_lines c.args.room l.state l.number) lines)
 
-pub slice_bounds-take_line-start : goal.slice_bounds-take_line-start
-slice_bounds-take_line-start c = omega (arith, line_ends _ _ _ c.loop-at-test.true c.line_end-end.ensures)
-
-pub slice_bounds-take_line-end : goal.slice_bounds-take_line-end
-slice_bounds-take_line-end c = omega (arith, line_ends _ _ _ c.loop-at-test.true c.line_end-end.ensures)
-
-pub returns-in-Err : goal.returns-in-Err
-returns-in-Err c = let e = line_ends _ _ _ c.loop-at-test.true c.line_end-end.ensures in let l = c.loop-at in cc (l.invariant.3, e.first, read_stop _ l.state l.number _ (lines_of (drop c.line_end-end.result _)) c.in-Err.ensures)
-
-pub overflow_add-number : goal.overflow_add-number
-overflow_add-number c = omega (arith, line_ends _ _ _ c.loop-at-test.true c.line_end-end.ensures)
-
-pub loop-at-smaller : goal.loop-at-smaller
-loop-at-smaller c = omega (arith, line_ends _ _ _ c.loop-at-test.true c.line_end-end.ensures)
-
-pub loop-at-preserved : goal.loop-at-preserved
-loop-at-preserved c = let e = line_ends _ _ _ c.loop-at-test.true c.line_end-end.ensures in let l = c.loop-at in (e.within, omega (arith, e.after), l.invariant.2, cc (l.invariant.3, e.first, read_go _ l.state l.number _ (lines_of (drop c.line_end-end.result _)) c.in-Ok.ensures))
+pub loop-line-preserved : goal.loop-line-preserved
+loop-line-preserved c =
+    let l = c.loop-line in
+    let step = c.in-Some.ensures.steps in
+    let lines = cut_off _ _ _ _ _ c.in-Some.ensures.steps (answers_always _ _ _ (λ f a r g k. search rules)) in (
+      omega (arith, l.invariant.0, ap length step.0, length-append c.in-Some.line.now c.next.new.self.rest.now, step.1.1, step.2),
+      l.invariant.1,
+      l.invariant.2 ∙ ap (read_lines c.args.room l.state l.number) lines ∙ sym (read_go _ l.state l.number _ _ c.take_line.result c.take_line.ensures c.in_ok-state.ensures),
+    )
 
 pub returns : goal.returns
-returns c = c.ended.ensures ∙ sym (c.loop-at.invariant.3 ∙ read_end _ _ _ _ c.loop-at-test.false)
+returns c = c.ended.ensures ∙ sym (c.loop-line.invariant.2 ∙ read_end _ _ _ _ c.in-None.ensures.steps.0)
