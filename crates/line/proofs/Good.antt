@@ -67,10 +67,10 @@ size_fields : {a b n m : Field} → as_size a b ≡ as_size n m → (a.value ≡
 size_fields e = (cc, cc)
 
 strange_size : {p : ℕ} {n m : Field} → strange p ≡ as_size n m → ⊥
-strange_size e = let z : ◌≡◌ {A = ℕ} 0 1 = cc in omega arith
+strange_size e = cc
 
 wrong_size : {n m : Field} (p : ℕ) → wrong p ≡ as_size n m → ⊥
-wrong_size p e = let z : ◌≡◌ {A = ℕ} 0 1 = cc in omega arith
+wrong_size p e = cc
 
 size_line : (l : List ℕ) {n m : Field} → Cut l → size_of l ≡ as_size n m → SizeLine l n.value m.value
 unfolding size_of
@@ -110,10 +110,10 @@ link_fields : {a b c u v w : Field} → as_link a b c ≡ as_link u v w → (a.v
 link_fields e = (cc, cc, cc)
 
 strange_link : {p : ℕ} {u v w : Field} → strange p ≡ as_link u v w → ⊥
-strange_link e = let z : ◌≡◌ {A = ℕ} 0 1 = cc in omega arith
+strange_link e = cc
 
 wrong_link : {u v w : Field} (p : ℕ) → wrong p ≡ as_link u v w → ⊥
-wrong_link p e = let z : ◌≡◌ {A = ℕ} 0 1 = cc in omega arith
+wrong_link p e = cc
 
 link_line : (l : List ℕ) {u v w : Field} → Cut l → link_of l ≡ as_link u v w → LinkLine l u.value v.value w.value
 unfolding link_of
@@ -168,10 +168,10 @@ ended x (y ∷ ys) cut e =
     record { xs = x ∷ r.xs; plain = more (cut 0 (omega arith)) r.plain; is = ap (λ (z : List ℕ). x ∷ z) r.is }
 
 strange_comment : {p : ℕ} → strange p ≡ as_comment → ⊥
-strange_comment e = let z : ◌≡◌ {A = ℕ} 0 1 = cc in omega arith
+strange_comment e = cc
 
 wrong_comment : {p : ℕ} → wrong p ≡ as_comment → ⊥
-wrong_comment e = let z : ◌≡◌ {A = ℕ} 0 1 = cc in omega arith
+wrong_comment e = cc
 
 comment_line : (l : List ℕ) → Cut l → get_or l 0 0 ≡ 99 → comment_of l ≡ as_comment → CommentLine l
 unfolding comment_of
@@ -249,16 +249,16 @@ module _ (l : List ℕ) (cut : Cut l) where
   pub read_comment : line_of l ≡ as_comment → CommentLine l
   read_comment e =
       let P : Result Line NoLine → Type 0 = λ x. x ≡ as_comment → ⊥ in
-      let size = size_any P (λ p. strange_comment) (λ p. wrong_comment) l (λ n m q. let z : ◌≡◌ {A = ℕ} 0 1 = cc in omega arith) in
-      let link = link_any P (λ p. strange_comment) (λ p. wrong_comment) l (λ u v w q. let z : ◌≡◌ {A = ℕ} 0 1 = cc in omega arith) in
+      let size = size_any P (λ p. strange_comment) (λ p. wrong_comment) l (λ n m q. cc) in
+      let link = link_any P (λ p. strange_comment) (λ p. wrong_comment) l (λ u v w q. cc) in
       let c = cond_then (eqb (get_or l 0 0) 99) (some e (λ p. strange_comment)) (cond_both P (eqb (get_or l 0 0) 112) size (cond_both P (eqb (get_or l 0 0) 97) link strange_comment)) in
       comment_line l cut (eqb-true _ _ c.0) c.1
 
   pub read_size : {n m : Field} → line_of l ≡ as_size n m → SizeLine l n.value m.value
   read_size {n} {m} e =
       let P : Result Line NoLine → Type 0 = λ x. x ≡ as_size n m → ⊥ in
-      let comment = comment_any P (λ p. strange_size) wrong_size l (λ q. let z : ◌≡◌ {A = ℕ} 0 1 = cc in omega arith) in
-      let link = link_any P (λ p. strange_size) wrong_size l (λ u v w q. let z : ◌≡◌ {A = ℕ} 0 1 = cc in omega arith) in
+      let comment = comment_any P (λ p. strange_size) wrong_size l (λ q. cc) in
+      let link = link_any P (λ p. strange_size) wrong_size l (λ u v w q. cc) in
       let c = cond_else (eqb (get_or l 0 0) 99) (some e (λ p. strange_size)) comment in
       let d = cond_then (eqb (get_or l 0 0) 112) c.1 (cond_both P (eqb (get_or l 0 0) 97) link strange_size) in
       size_line l cut d.1
@@ -266,8 +266,8 @@ module _ (l : List ℕ) (cut : Cut l) where
   pub read_link : {u v w : Field} → line_of l ≡ as_link u v w → LinkLine l u.value v.value w.value
   read_link {u} {v} {w} e =
       let P : Result Line NoLine → Type 0 = λ x. x ≡ as_link u v w → ⊥ in
-      let comment = comment_any P (λ p. strange_link) wrong_link l (λ q. let z : ◌≡◌ {A = ℕ} 0 1 = cc in omega arith) in
-      let size = size_any P (λ p. strange_link) wrong_link l (λ n m q. let z : ◌≡◌ {A = ℕ} 0 1 = cc in omega arith) in
+      let comment = comment_any P (λ p. strange_link) wrong_link l (λ q. cc) in
+      let size = size_any P (λ p. strange_link) wrong_link l (λ n m q. cc) in
       let c = cond_else (eqb (get_or l 0 0) 99) (some e (λ p. strange_link)) comment in
       let d = cond_else (eqb (get_or l 0 0) 112) c.1 size in
       link_line l cut (cond_then (eqb (get_or l 0 0) 97) d.1 strange_link).1

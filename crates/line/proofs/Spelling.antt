@@ -69,7 +69,7 @@ good_value {v} {w} {p} {q} e =
     (ap (λ (x : Number). x.value) n, ap (λ (x : Number). x.next) n)
 
 never_good : {p v q : ℕ} → bad p ≡ good v q → ⊥
-never_good e = let z : ◌≡◌ {A = ℕ} 0 1 = cc in omega arith
+never_good e = cc
 
 record Grown (v at : ℕ) (bs : List ℕ) (w next : ℕ) : Type 0 where
   ds : List ℕ

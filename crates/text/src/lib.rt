@@ -27,6 +27,9 @@ pub struct Refused {
     pub line: u32,
 }
 
+// The most bytes of a text.
+const LONGEST: usize = 1048576;
+
 // The end of the text, at the line after the last.
 #[tactic(auto, using(std::proofs::lemmas::Bool::Decides::nat_tests), unfolding(crate::specs::Text::finish))]
 fn ended(state: State, line: u32) -> Result<Size, Refused>
@@ -58,7 +61,7 @@ fn at_line(line: u32, step: Result<State, Fault>) -> Result<State, Refused>
 fn scan(text: &[u8], room: usize) -> Result<Size, Refused>
     ensures { said result ≡ read_text room text.now }
 {
-    if 1048576 < text.len() {
+    if LONGEST < text.len() {
         return Err(Refused {
             refusal: Refusal::Count,
             line: 0,

@@ -6,16 +6,16 @@ use Rattle.text.specs.Text.{said, read_lines, read_text}
 use Rattle.text.proofs.Laws.{read_stop, read_go, read_end}
 use Rattle.text.proofs.scan.Goals as goal
 
-pub returns-then-text-gt1048576 : goal.returns-then-text-gt1048576
+pub returns-then-text-gt-LONGEST : goal.returns-then-text-gt-LONGEST
 unfolding read_text
-returns-then-text-gt1048576 c = rw (lt-ltb 1048576 _ c.if-text-gt1048576.true)
+returns-then-text-gt-LONGEST c = rw (lt-ltb 1048576 _ c.if-text-gt-LONGEST.true)
 
 pub loop-line-init : goal.loop-line-init
 unfolding read_text
 loop-line-init c =
     let e = c.split_inclusive-line-items.ensures.rest in
     let f = c.into_iter-line-iterator.ensures.into_iter_gives in
-    rw (f, e) (omega arith, omega arith, rw (le-ltb 1048576 _ c.if-text-gt1048576.false))
+    rw (f, e) (omega arith, omega arith, rw (le-ltb 1048576 _ c.if-text-gt-LONGEST.false))
 
 pub returns-in_err-state : goal.returns-in_err-state
 returns-in_err-state c =
