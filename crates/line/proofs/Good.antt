@@ -66,18 +66,12 @@ last_field l {at} {v} {next} cut f = go (dec_le (length l) next)
 size_fields : {a b n m : Field} → as_size a b ≡ as_size n m → (a.value ≡ n.value) × (b.value ≡ m.value)
 size_fields e = (cc, cc)
 
-strange_size : {p : ℕ} {n m : Field} → strange p ≡ as_size n m → ⊥
-strange_size e = cc
-
-wrong_size : {n m : Field} (p : ℕ) → wrong p ≡ as_size n m → ⊥
-wrong_size p e = cc
-
 size_line : (l : List ℕ) {n m : Field} → Cut l → size_of l ≡ as_size n m → SizeLine l n.value m.value
 unfolding size_of
 size_line l {n} {m} cut e =
-    let a = cond_else (ltb (agree_of l size_word) 5) e strange_size in
-    let x = then_good (field_at l 5 32) _ wrong (as_size n m) a.1 wrong_size in
-    let y = then_good (field_at l x.next 10) _ wrong (as_size n m) x.gives wrong_size in
+    let a = cond_else (ltb (agree_of l size_word) 5) e (λ q. cc) in
+    let x = then_good (field_at l 5 32) _ wrong (as_size n m) a.1 (λ p q. cc) in
+    let y = then_good (field_at l x.next 10) _ wrong (as_size n m) x.gives (λ p q. cc) in
     let f = field_spelled l 5 32 x.v x.next x.is in
     let g = field_spelled l x.next 10 y.v y.next y.is in
     let values = size_fields y.gives in
@@ -109,19 +103,13 @@ line_size {l} {n} {m} s =
 link_fields : {a b c u v w : Field} → as_link a b c ≡ as_link u v w → (a.value ≡ u.value) × (b.value ≡ v.value) × (c.value ≡ w.value)
 link_fields e = (cc, cc, cc)
 
-strange_link : {p : ℕ} {u v w : Field} → strange p ≡ as_link u v w → ⊥
-strange_link e = cc
-
-wrong_link : {u v w : Field} (p : ℕ) → wrong p ≡ as_link u v w → ⊥
-wrong_link p e = cc
-
 link_line : (l : List ℕ) {u v w : Field} → Cut l → link_of l ≡ as_link u v w → LinkLine l u.value v.value w.value
 unfolding link_of
 link_line l {u} {v} {w} cut e =
-    let a = cond_else (ltb (agree_of l link_word) 2) e strange_link in
-    let x = then_good (field_at l 2 32) _ wrong (as_link u v w) a.1 wrong_link in
-    let y = then_good (field_at l x.next 32) _ wrong (as_link u v w) x.gives wrong_link in
-    let z = then_good (field_at l y.next 10) _ wrong (as_link u v w) y.gives wrong_link in
+    let a = cond_else (ltb (agree_of l link_word) 2) e (λ q. cc) in
+    let x = then_good (field_at l 2 32) _ wrong (as_link u v w) a.1 (λ p q. cc) in
+    let y = then_good (field_at l x.next 32) _ wrong (as_link u v w) x.gives (λ p q. cc) in
+    let z = then_good (field_at l y.next 10) _ wrong (as_link u v w) y.gives (λ p q. cc) in
     let f = field_spelled l 2 32 x.v x.next x.is in
     let g = field_spelled l x.next 32 y.v y.next y.is in
     let h = field_spelled l y.next 10 z.v z.next z.is in
@@ -167,23 +155,17 @@ ended x (y ∷ ys) cut e =
     let r = ended y ys (λ i g. cut (suc i) (omega arith)) e in
     record { xs = x ∷ r.xs; plain = more (cut 0 (omega arith)) r.plain; is = ap (λ (z : List ℕ). x ∷ z) r.is }
 
-strange_comment : {p : ℕ} → strange p ≡ as_comment → ⊥
-strange_comment e = cc
-
-wrong_comment : {p : ℕ} → wrong p ≡ as_comment → ⊥
-wrong_comment e = cc
-
 comment_line : (l : List ℕ) → Cut l → get_or l 0 0 ≡ 99 → comment_of l ≡ as_comment → CommentLine l
 unfolding comment_of
-comment_line [] cut f e = absurd (wrong_comment e)
-comment_line (a ∷ []) cut f e = absurd (wrong_comment e)
+comment_line [] cut f e = absurd cc
+comment_line (a ∷ []) cut f e = absurd cc
 comment_line (a ∷ b ∷ r) cut f e = go (eqb b 10) refl long.1
   where
     l : List ℕ
     l = a ∷ b ∷ r
 
     long : (ltb (length l) 2 ≡ false) × (cond (eqb b 10) as_comment (cond (eqb b 32) (cond (eqb (get_or l (length l - 1) 0) 10) as_comment (wrong (length l))) (strange 1)) ≡ as_comment)
-    long = cond_else (ltb (length l) 2) e wrong_comment
+    long = cond_else (ltb (length l) 2) e (λ q. cc)
 
     behind : (r : List ℕ) → Cut (a ∷ b ∷ r) → b ≡ 32 → get_or (a ∷ b ∷ r) (length (a ∷ b ∷ r) - 1) 0 ≡ 10 → CommentLine (a ∷ b ∷ r)
     behind [] cut s last = absurd (omega (arith, s, last))
@@ -199,8 +181,8 @@ comment_line (a ∷ b ∷ r) cut f e = go (eqb b 10) refl long.1
     go : (t : Bool) → eqb b 10 ≡ t → cond t as_comment (cond (eqb b 32) (cond (eqb (get_or l (length l - 1) 0) 10) as_comment (wrong (length l))) (strange 1)) ≡ as_comment → CommentLine l
     go true q h = bare r cut (eqb-true b 10 q)
     go false q h =
-        let s = cond_then (eqb b 32) h strange_comment in
-        let t = cond_then (eqb (get_or l (length l - 1) 0) 10) s.1 wrong_comment in
+        let s = cond_then (eqb b 32) h (λ q. cc) in
+        let t = cond_then (eqb (get_or l (length l - 1) 0) 10) s.1 (λ q. cc) in
         behind r cut (eqb-true b 32 s.0) (eqb-true _ _ t.0)
 
 line_comment : {l : List ℕ} → CommentLine l → comment_of l ≡ as_comment
@@ -249,28 +231,28 @@ module _ (l : List ℕ) (cut : Cut l) where
   pub read_comment : line_of l ≡ as_comment → CommentLine l
   read_comment e =
       let P : Result Line NoLine → Type 0 = λ x. x ≡ as_comment → ⊥ in
-      let size = size_any P (λ p. strange_comment) (λ p. wrong_comment) l (λ n m q. cc) in
-      let link = link_any P (λ p. strange_comment) (λ p. wrong_comment) l (λ u v w q. cc) in
-      let c = cond_then (eqb (get_or l 0 0) 99) (some e (λ p. strange_comment)) (cond_both P (eqb (get_or l 0 0) 112) size (cond_both P (eqb (get_or l 0 0) 97) link strange_comment)) in
+      let size = size_any P (λ p q. cc) (λ p q. cc) l (λ n m q. cc) in
+      let link = link_any P (λ p q. cc) (λ p q. cc) l (λ u v w q. cc) in
+      let c = cond_then (eqb (get_or l 0 0) 99) (some e (λ p q. cc)) (cond_both P (eqb (get_or l 0 0) 112) size (cond_both P (eqb (get_or l 0 0) 97) link (λ q. cc))) in
       comment_line l cut (eqb-true _ _ c.0) c.1
 
   pub read_size : {n m : Field} → line_of l ≡ as_size n m → SizeLine l n.value m.value
   read_size {n} {m} e =
       let P : Result Line NoLine → Type 0 = λ x. x ≡ as_size n m → ⊥ in
-      let comment = comment_any P (λ p. strange_size) wrong_size l (λ q. cc) in
-      let link = link_any P (λ p. strange_size) wrong_size l (λ u v w q. cc) in
-      let c = cond_else (eqb (get_or l 0 0) 99) (some e (λ p. strange_size)) comment in
-      let d = cond_then (eqb (get_or l 0 0) 112) c.1 (cond_both P (eqb (get_or l 0 0) 97) link strange_size) in
+      let comment = comment_any P (λ p q. cc) (λ p q. cc) l (λ q. cc) in
+      let link = link_any P (λ p q. cc) (λ p q. cc) l (λ u v w q. cc) in
+      let c = cond_else (eqb (get_or l 0 0) 99) (some e (λ p q. cc)) comment in
+      let d = cond_then (eqb (get_or l 0 0) 112) c.1 (cond_both P (eqb (get_or l 0 0) 97) link (λ q. cc)) in
       size_line l cut d.1
 
   pub read_link : {u v w : Field} → line_of l ≡ as_link u v w → LinkLine l u.value v.value w.value
   read_link {u} {v} {w} e =
       let P : Result Line NoLine → Type 0 = λ x. x ≡ as_link u v w → ⊥ in
-      let comment = comment_any P (λ p. strange_link) wrong_link l (λ q. cc) in
-      let size = size_any P (λ p. strange_link) wrong_link l (λ n m q. cc) in
-      let c = cond_else (eqb (get_or l 0 0) 99) (some e (λ p. strange_link)) comment in
+      let comment = comment_any P (λ p q. cc) (λ p q. cc) l (λ q. cc) in
+      let size = size_any P (λ p q. cc) (λ p q. cc) l (λ n m q. cc) in
+      let c = cond_else (eqb (get_or l 0 0) 99) (some e (λ p q. cc)) comment in
       let d = cond_else (eqb (get_or l 0 0) 112) c.1 size in
-      link_line l cut (cond_then (eqb (get_or l 0 0) 97) d.1 strange_link).1
+      link_line l cut (cond_then (eqb (get_or l 0 0) 97) d.1 (λ q. cc)).1
 
 -- a line that begins with a byte
 begins : (l rest : List ℕ) (b : ℕ) → l ≡ b ∷ rest → line_of l ≡ cond (eqb b 99) (comment_of l) (cond (eqb b 112) (size_of l) (cond (eqb b 97) (link_of l) (strange 0)))
