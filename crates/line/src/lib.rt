@@ -85,9 +85,8 @@ fn comment(line: &[u8]) -> Result<Line, NoLine>
     ensures { result ≡ comment_of line.now }
 {
     match line {
-        [] | [_] => Err(NoLine::Wrong(line.len())),
         [_, b'\n', ..] | [_, b' ', .., b'\n'] => Ok(Line::Comment),
-        [_, b' ', ..] => Err(NoLine::Wrong(line.len())),
+        [] | [_] | [_, b' ', ..] => Err(NoLine::Wrong(line.len())),
         _ => Err(NoLine::Strange(1)),
     }
 }
