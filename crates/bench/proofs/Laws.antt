@@ -1,12 +1,15 @@
--- The ways that opening and a turn go, from what the functions below promise. Assumes nothing.
+-- What the calls say where they refuse and where they do not, and what opening and a turn have then. Assumes nothing.
 use mathlib.Core.Path.{◌≡◌, refl, sym, ◌∙◌, ap}
 use mathlib.Core.Bool.{Bool, true, false}
 use mathlib.Core.List.{List, [], ◌∷◌}
 use Prim.Native.Nat.{ℕ, ◌≤◌}
 use native.Mathlib.Omega.{arith}
-use lib.ListN.{length, get_or, drop}
+use lib.ListN.{length}
 use borrow.Author.Tests.{eq-eqb, ne_eqb}
 use Rattle.limits.specs.Limits.{Between}
+use Rattle.limits.specs.Refusals.{number_of}
+use Rattle.limits.specs.declared.Refusal.{Refusal}
+use Rattle.limits.proofs.Refused.{number_not_zero}
 use Rattle.limits.specs.Said.{Said, told, refused, unless_refused}
 use Rattle.limits.proofs.Laws.{or_else_none, outside_none, room_none}
 use Rattle.map.specs.Map.{Valid}
@@ -14,12 +17,14 @@ use Rattle.map.specs.declared.Side.{Side}
 use Rattle.map.proofs.Laws.{fault_valid}
 use Rattle.half.specs.Half.{dist, nearest_open}
 use Rattle.rules.proofs.Laws.{next_is, done_none, done_by}
-use Rattle.shape.specs.Bench.{half, bench_words, words, parse, opened, WellShaped}
-use Rattle.shape.specs.Rules.{beyond, done, settled_by, turned, turn_told}
+use Rattle.shape.specs.Bench.{half, bench_words, words, parse, WellShaped}
+use Rattle.shape.specs.Rules.{next, beyond, done, settled_by, turned, turn_told}
 use Rattle.shaped.specs.Lent.{lent_fault}
+use Rattle.shaped.proofs.Lent.{lent_ready}
+use Rattle.area.proofs.Laws.{first_word}
 use Rattle.shape.proofs.Rounds.{words_parse}
 use Rattle.shape.proofs.Turns.{turned_done, turned_settles}
-use Rattle.bench.specs.Calls.{judged, order_fault, open_fault, open_said, open_words, turn_fault, turn_said, turn_words}
+use Rattle.bench.specs.Calls.{judged, order_fault, open_fault, turn_fault, turn_said, turn_words}
 
 -- ---- refused or not
 
@@ -32,6 +37,23 @@ pub judged_told : {fault : ℕ} {answer : Said} {values : List ℕ} (x : List �
 unfolding judged
 judged_told x z e f = simp (eq-eqb _ _ z) (e, f)
 
+module _ (fault : ℕ) where
+  pub refused_says : (r : Refusal) (answer : Said) → number_of r ≡ fault → refused (number_of r) [] ≡ judged fault answer
+  unfolding judged
+  refused_says r answer e = rw (← e) (simp (ne_eqb _ _ (number_not_zero r)) refl)
+
+  pub refused_keeps : (r : Refusal) (answer : Said) (x y : List ℕ) → number_of r ≡ fault → x ≡ unless_refused (judged fault answer) y x
+  unfolding judged
+  refused_keeps r answer x y e = rw (← e) (simp (ne_eqb _ _ (number_not_zero r)) refl)
+
+  pub passed_says : (answer said : Said) → 0 ≡ fault → said ≡ answer → said ≡ judged fault answer
+  unfolding judged
+  passed_says answer said e f = rw (← e) f
+
+  pub passed_writes : (values x y z : List ℕ) → 0 ≡ fault → z ≡ y → z ≡ unless_refused (judged fault (told values)) y x
+  unfolding judged
+  passed_writes values x y z e f = rw (← e) f
+
 -- ---- opening
 
 -- what an order has that is not refused
@@ -41,58 +63,39 @@ pub record Order (map : List ℕ) (n m start target : ℕ) (x : List ℕ) : Type
   pub target_in : Between 1 n target
   pub room : bench_words n ≤ length x
 
-module _ (map : List ℕ) (n m start target stretch : ℕ) (x : List ℕ) where
-  open_order : open_fault map n m start target stretch x ≡ 0 → Order map n m start target x
-  unfolding open_fault order_fault
-  open_order h =
-      let a = or_else_none _ _ h in
-      let b = or_else_none _ _ a.1 in
-      let c = or_else_none _ _ b.0 in
-      record {
-        valid = fault_valid n m map a.0;
-        start_in = outside_none 1 n 4 start (λ z. omega arith) c.0;
-        target_in = outside_none 1 n 4 target (λ z. omega arith) (or_else_none _ _ c.1).0;
-        room = room_none _ _ b.1;
-      }
+pub open_order : (map : List ℕ) (n m start target stretch : ℕ) (x : List ℕ) → 0 ≡ open_fault map n m start target stretch x → Order map n m start target x
+unfolding open_fault order_fault
+open_order map n m start target stretch x h =
+    let a = or_else_none _ _ (sym h) in
+    let b = or_else_none _ _ a.1 in
+    let c = or_else_none _ _ b.0 in
+    record {
+      valid = fault_valid n m map a.0;
+      start_in = outside_none 1 n 4 start (λ z. omega arith) c.0;
+      target_in = outside_none 1 n 4 target (λ z. omega arith) (or_else_none _ _ c.1).0;
+      room = room_none _ _ b.1;
+    }
 
-  module _ {fault : ℕ} (e : fault ≡ open_fault map n m start target stretch x) where
-    pub open_ready : fault ≡ 0 → Order map n m start target x
-    open_ready z = open_order (sym e ∙ z)
+-- ---- the crossing that a turn settles
 
-    pub open_refused : (fault ≡ 0 → ⊥) → (refused fault [] ≡ open_said map n m start target stretch x) × (x ≡ open_words map n m start target stretch x)
-    unfolding open_words open_said
-    open_refused z = rw (← e) (judged_refused _ _ _ z)
+-- of the half as it is lent on
+module _ (s : Side) (y : List ℕ) {n m i k : ℕ} {h : List ℕ} (shaped : WellShaped n m (parse n y)) (same : i ≡ n) (size : k ≡ i) (part : h ≡ half s (parse i y)) where
+  nearest : nearest_open k h ≡ nearest_open n (half s (parse n y))
+  nearest = rw (size, part, same) refl
 
-    pub open_goes : {y : List ℕ} → fault ≡ 0 → y ≡ words (opened n m start target stretch (drop (bench_words n) x))
-        → (told [] ≡ open_said map n m start target stretch x) × (y ≡ open_words map n m start target stretch x)
-    unfolding open_words open_said
-    open_goes z p = rw (← e) (judged_told x z refl p)
+  pub next_none : 0 ≡ nearest_open k h → done s (parse n y) ≡ true
+  next_none e = done_none s n y (e ∙ nearest) (first_word n m y shaped) refl
+
+  module _ {x : ℕ} (e : x ≡ nearest_open k h) (inside : Between 1 k x) where
+    pub next_found : (Between 1 n x) × (next s (parse n y) ≡ x)
+    next_found = (rw (← same, ← size) inside, next_is s n y (e ∙ nearest) (first_word n m y shaped))
+
+    pub next_beyond : {stretch optimum d : ℕ} {t : Bool} → stretch ≡ (parse i y).stretch → optimum ≡ (parse i y).optimum → d ≡ dist h x → t ≡ beyond stretch optimum d → done s (parse n y) ≡ t
+    unfolding parse
+    next_beyond p q f g =
+        done_by s n y (e ∙ nearest) (first_word n m y shaped) (λ z. omega (arith, inside.least)) (f ∙ rw (part, same) refl) (g ∙ rw (p, q) refl)
 
 -- ---- one turn
-
-module _ (s : Side) (map : List ℕ) (n m : ℕ) (y : List ℕ) (room : bench_words n ≤ length y) (shaped : WellShaped n m (parse n y)) where
-  turn_done : done s (parse n y) ≡ true → (told [] ≡ turn_told s (parse n y)) × (y ≡ words (turned s map (parse n y)))
-  unfolding turn_told
-  turn_done d = (simp d, sym (words_parse n y room) ∙ ap words (sym (turned_done s map (parse n y) d)))
-
-  module _ {x : ℕ} (e : x ≡ nearest_open n (half s (parse n y))) where
-    same : get_or y 0 0 ≡ n
-    unfolding parse
-    same = shaped.same_n
-
-    pub turn_none : x ≡ 0 → (told [] ≡ turn_told s (parse n y)) × (y ≡ words (turned s map (parse n y)))
-    turn_none z = turn_done (done_none s n y e same z)
-
-    module _ (z : x ≡ 0 → ⊥) {d : ℕ} (f : d ≡ dist (half s (parse n y)) x) {t : Bool} (g : t ≡ beyond (get_or y 4 0) (get_or y 5 0) d) where
-      pub turn_beyond : t ≡ true → (told [] ≡ turn_told s (parse n y)) × (y ≡ words (turned s map (parse n y)))
-      turn_beyond h = turn_done (done_by s n y e same z f g ∙ h)
-
-      pub turn_settles : t ≡ false → {y₁ : List ℕ} → y₁ ≡ words (settled_by s map x (parse n y)) → (told (x ∷ d ∷ []) ≡ turn_told s (parse n y)) × (y₁ ≡ words (turned s map (parse n y)))
-      unfolding turn_told
-      turn_settles h p =
-          let q = done_by s n y e same z f g ∙ h in
-          let is = next_is s n y e same in
-          (rw (q, is, f), p ∙ ap (λ (k : ℕ). words (settled_by s map k (parse n y))) (sym is) ∙ ap words (sym (turned_settles s map (parse n y) q)))
 
 module _ (map : List ℕ) (n m : ℕ) (x : List ℕ) where
   module _ {fault : ℕ} (e : fault ≡ lent_fault map n m 0 x) where
@@ -104,3 +107,20 @@ module _ (map : List ℕ) (n m : ℕ) (x : List ℕ) where
         → (answer ≡ turn_said s map n m x) × (y ≡ turn_words s map n m x)
     unfolding turn_words turn_said turn_fault turn_told
     turn_goes s z p q = rw (← e) (judged_told x z p q)
+
+  module _ (s : Side) (z : 0 ≡ lent_fault map n m 0 x) where
+    pub turn_stays : done s (parse n x) ≡ true → (told [] ≡ turn_said s map n m x) × (x ≡ turn_words s map n m x)
+    unfolding turn_told
+    turn_stays d = turn_goes refl s (sym z) told_is (sym (words_parse n x (lent_ready map n m 0 x (sym z)).1.room) ∙ ap words (sym (turned_done s map (parse n x) d)))
+      where
+        told_is : told [] ≡ turn_told s (parse n x)
+        told_is = rw d refl
+
+    pub turn_settles : {v d : ℕ} {y : List ℕ} → done s (parse n x) ≡ false → next s (parse n x) ≡ v → d ≡ dist (half s (parse n x)) v → y ≡ words (settled_by s map v (parse n x))
+        → (told (v ∷ d ∷ []) ≡ turn_said s map n m x) × (y ≡ turn_words s map n m x)
+    unfolding turn_told
+    turn_settles {v} {d} e is f p =
+        turn_goes refl s (sym z) told_is (p ∙ ap (λ (k : ℕ). words (settled_by s map k (parse n x))) (sym is) ∙ ap words (sym (turned_settles s map (parse n x) e)))
+      where
+        told_is : told (v ∷ d ∷ []) ≡ turn_told s (parse n x)
+        told_is = rw (e, is, f) refl

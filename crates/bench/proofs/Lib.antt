@@ -1,4 +1,4 @@
 pub mod Answers
-pub mod Areas
 pub mod Laws
+pub mod Areas
 pub mod Routes

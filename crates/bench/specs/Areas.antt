@@ -1,16 +1,14 @@
 -- What the area call answers, and what the lent mask holds afterward. Assumes nothing.
-use Rattle.std.specs.Prelude.{List, [], ◌++◌, ℕ, length, drop}
-use Rattle.limits.specs.Said.{Said, told, refused, unless_refused}
+use Rattle.std.specs.Prelude.{List, [], ◌++◌, ℕ, length, drop, Result}
+use Rattle.limits.specs.declared.Refusal.{Refusal}
+use Rattle.limits.specs.Said.{Said, told, unless_refused}
 use Rattle.shape.specs.Bench.{parse}
 use Rattle.route.specs.Area.{mask_of}
 use Rattle.area.specs.Finished.{area_fault}
-use Rattle.bench.specs.Calls.{judged}
-use Rattle.bench.specs.declared.Filling.{Filling}
-use Rattle.bench.specs.declared.Filling.TheVariants.{Area, Refused}
+use Rattle.bench.specs.Calls.{said_by, judged}
 
-abbrev pub said_filling : Filling → Said
-said_filling Area = told []
-said_filling (Refused number) = refused number []
+abbrev pub said_filling : Result (Unit {0}) Refusal → Said
+said_filling = said_by (λ _. [])
 
 unfoldable pub area_said : List ℕ → ℕ → ℕ → List ℕ → ℕ → List ℕ → Said
 area_said map n m x locality mask = judged (area_fault map n m x locality (length mask)) (told [])

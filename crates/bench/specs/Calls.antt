@@ -1,18 +1,23 @@
 -- What the public calls on a bench answer and what the lent words hold afterward, for all inputs; in the order of the document.
 -- Assumes nothing.
-use Rattle.std.specs.Prelude.{cond, List, [], ◌∷◌, ℕ, eqb, length, drop}
+use Rattle.std.specs.Prelude.{cond, List, [], ◌∷◌, ℕ, eqb, length, drop, Result, Ok, Err}
 use Rattle.limits.specs.First.{or_else}
 use Rattle.limits.specs.Limits.{crossing_fault, stretch_fault, room_fault}
+use Rattle.limits.specs.Refusals.{number_of}
+use Rattle.limits.specs.declared.Refusal.{Refusal}
 use Rattle.limits.specs.Said.{Said, told, refused, unless_refused}
 use Rattle.map.specs.Map.{map_fault}
 use Rattle.map.specs.declared.Side.{Side}
 use Rattle.shape.specs.Bench.{bench_words, words, parse, opened}
 use Rattle.shape.specs.Rules.{turned, turn_told}
 use Rattle.shaped.specs.Lent.{lent_fault}
-use Rattle.bench.specs.declared.Opening.{Opening}
-use Rattle.bench.specs.declared.Opening.TheVariants as openings
 use Rattle.bench.specs.declared.Turn.{Turn}
-use Rattle.bench.specs.declared.Turn.TheVariants as turns
+use Rattle.bench.specs.declared.Turn.TheVariants.{Settled, Done}
+
+-- what an answer says: the values of its Ok, or the number of its refusal
+abbrev pub said_by : {A : Type 0} → (A → List ℕ) → Result A Refusal → Said
+said_by values (Ok a) = told (values a)
+said_by values (Err r) = refused (number_of r) []
 
 -- the answer, unless there is a number of refusal
 unfoldable pub judged : ℕ → Said → Said
@@ -20,9 +25,8 @@ judged fault answer = cond (eqb fault 0) answer (refused fault [])
 
 -- ---- opening
 
-abbrev pub said_opening : Opening → Said
-said_opening openings.Opened = told []
-said_opening (openings.Refused number) = refused number []
+abbrev pub said_opening : Result (Unit {0}) Refusal → Said
+said_opening = said_by (λ _. [])
 
 -- start 4, target 4, stretch 5
 unfoldable pub order_fault : ℕ → ℕ → ℕ → ℕ → ℕ
@@ -45,10 +49,12 @@ open_words map n m start target stretch x =
 
 -- ---- a turn
 
-abbrev pub said_turn : Turn → Said
-said_turn (turns.Settled crossing distance) = told (crossing ∷ distance ∷ [])
-said_turn turns.Done = told []
-said_turn (turns.Refused number) = refused number []
+abbrev pub turn_values : Turn → List ℕ
+turn_values (Settled crossing distance) = crossing ∷ distance ∷ []
+turn_values Done = []
+
+abbrev pub said_turn : Result Turn Refusal → Said
+said_turn = said_by turn_values
 
 -- those of the map, bench 3, then 6
 unfoldable pub turn_fault : List ℕ → ℕ → ℕ → List ℕ → ℕ

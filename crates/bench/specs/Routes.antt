@@ -1,21 +1,19 @@
 -- What the route calls answer, what they hand back and what the lent buffer holds afterward, for all inputs. Assumes nothing.
-use Rattle.std.specs.Prelude.{List, [], ◌∷◌, ◌++◌, ℕ, length, drop}
-use Rattle.limits.specs.Said.{Said, told, refused, unless_refused}
+use Rattle.std.specs.Prelude.{List, [], ◌∷◌, ◌++◌, ℕ, length, drop, Result, Ok, Err}
+use Rattle.limits.specs.declared.Refusal.{Refusal}
+use Rattle.limits.specs.Said.{Said, told, unless_refused}
 use Rattle.shape.specs.Bench.{parse}
 use Rattle.route.specs.Area.{route_of}
 use Rattle.area.specs.Finished.{route_fault}
-use Rattle.bench.specs.Calls.{judged}
-use Rattle.bench.specs.declared.Routing.{Routing}
-use Rattle.bench.specs.declared.Routing.TheVariants as routings
+use Rattle.bench.specs.Calls.{said_by, judged}
 
-abbrev pub said_routing : Routing → Said
-said_routing (routings.Length k) = told (k ∷ [])
-said_routing (routings.Refused number) = refused number []
+abbrev pub said_routing : Result ℕ Refusal → Said
+said_routing = said_by (λ k. k ∷ [])
 
 -- how many words of the buffer are filled
-abbrev pub filled_words : Routing → ℕ
-filled_words (routings.Length k) = k
-filled_words (routings.Refused number) = 0
+abbrev pub filled_words : Result ℕ Refusal → ℕ
+filled_words (Ok k) = k
+filled_words (Err r) = 0
 
 -- the length of the route
 unfoldable pub route_said : List ℕ → ℕ → ℕ → List ℕ → ℕ → List ℕ → Said

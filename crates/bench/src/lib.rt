@@ -1,59 +1,42 @@
 // The calls on a bench: its opening and its turns, its area and its routes.
 #![tactic(auto)]
 
-ghost use Rattle.std.specs.Prelude.{◌≡◌, ◌≤◌, length};
-ghost use Rattle.map.specs.Map.{Valid};
+ghost use Rattle.std.specs.Prelude.{◌≡◌, true, false, length, IfSome, IfNone};
+ghost use Rattle.limits.specs.Limits.{Between};
+ghost use Rattle.limits.specs.Refusals.{fault_of};
 ghost use Rattle.map.specs.declared.Side.TheVariants.{Forward, Backward};
-ghost use Rattle.shape.specs.Bench.{bench_words, words, parse, WellShaped};
-ghost use Rattle.shape.specs.Rules.{turned, turn_told};
+ghost use Rattle.shape.specs.Bench.{parse};
+ghost use Rattle.shape.specs.Rules.{next as next_of, done as done_of};
 ghost use Rattle.area.specs.Finished.{route_fault};
 ghost use Rattle.bench.specs.Calls.{said_opening, order_fault, open_fault, open_said, open_words, said_turn, turn_said, turn_words};
 ghost use Rattle.bench.specs.Areas.{said_filling, area_said, area_mask};
-ghost use Rattle.bench.specs.Routes.{said_routing, filled_words, route_said, route_part, route_buffer};
+ghost use Rattle.bench.specs.Routes.{said_routing, route_said, route_part, route_buffer};
 
+use limits::Refusal;
 use map::Side;
+use shaped::Shaped;
 
-// What opening answers.
-#[derive(Clone, Copy)]
-pub enum Opening {
-    Opened,
-    Refused(u32),
-}
-
-// What a turn answers: the crossing settled and its distance, that the half is done, or a number of refusal.
-#[derive(Clone, Copy)]
+// What a turn answers: the crossing settled and its distance, or that the half is done.
+#[derive(Clone, Copy, Debug, PartialEq, Eq)]
 pub enum Turn {
     Settled(u32, u32),
     Done,
-    Refused(u32),
-}
-
-// What the area call answers.
-#[derive(Clone, Copy)]
-pub enum Filling {
-    Area,
-    Refused(u32),
-}
-
-// What filling a route answers: its length, or a number of refusal.
-#[derive(Clone, Copy)]
-pub enum Routing {
-    Length(u32),
-    Refused(u32),
 }
 
 // ---- opening
 
-// The number of refusal of an order on a map of n crossings.
-fn order_fault(n: u32, start: u32, target: u32, stretch: u32) -> u32
-    ensures { result ≡ order_fault n start target stretch }
+// An order on a map of n crossings.
+#[tactic(auto, using(limits::proofs::Refused::refused_first, limits::proofs::Refused::passed_first), unfolding(crate::specs::Calls::order_fault))]
+fn check_order(n: u32, start: u32, target: u32, stretch: u32) -> Result<(), Refusal>
+    ensures { fault_of result ≡ order_fault n start target stretch }
 {
-    let from = limits::crossing_fault(n, start);
-    let to = limits::crossing_fault(n, target);
-    limits::or_else(from, limits::or_else(to, limits::stretch_fault(stretch)))
+    limits::check_crossing(n, start)?;
+    limits::check_crossing(n, target)?;
+    limits::check_stretch(stretch)
 }
 
-fn open_fault(
+#[tactic(auto, using(limits::proofs::Refused::refused_first, limits::proofs::Refused::passed_first), unfolding(crate::specs::Calls::open_fault))]
+fn check_open(
     map: &[u32],
     n: u32,
     m: u32,
@@ -61,15 +44,16 @@ fn open_fault(
     target: u32,
     stretch: u32,
     bench: &[u32],
-) -> u32
-    ensures { result ≡ open_fault map.now n m start target stretch bench.now }
+) -> Result<(), Refusal>
+    ensures { fault_of result ≡ open_fault map.now n m start target stretch bench.now }
 {
-    let order = order_fault(n, start, target, stretch);
-    let room = limits::room_fault(shape::bench_words(n as usize), bench.len());
-    limits::or_else(map::fault(map, n, m), limits::or_else(order, room))
+    map::check(map, n, m)?;
+    check_order(n, start, target, stretch)?;
+    limits::check_room(shape::bench_words(n as usize), bench.len())
 }
 
 // Opens the bench for one order.
+#[tactic(auto, using(crate::proofs::Laws::refused_says, crate::proofs::Laws::refused_keeps, crate::proofs::Laws::passed_says, crate::proofs::Laws::passed_writes), unfolding(crate::specs::Calls::open_said, crate::specs::Calls::open_words))]
 pub fn open_bench(
     map: &[u32],
     n: u32,
@@ -78,51 +62,55 @@ pub fn open_bench(
     target: u32,
     stretch: u32,
     bench: &mut [u32],
-) -> Opening
+) -> Result<(), Refusal>
     ensures answer { said_opening result ≡ open_said map.now n m start target stretch bench.old }
     ensures bench { bench.new ≡ open_words map.now n m start target stretch bench.old }
 {
-    let fault = open_fault(map, n, m, start, target, stretch, bench);
-    if fault != 0 {
-        return Opening::Refused(fault);
-    }
+    check_open(map, n, m, start, target, stretch, bench)?;
     writing::write_opened(bench, n, m, start, target, stretch);
-    Opening::Opened
+    Ok(())
 }
 
 // ---- one turn
 
-// One turn on a bench that is well shaped for its map.
-fn advance(map: &[u32], n: usize, m: usize, side: Side, bench: &mut [u32]) -> Turn
-    requires { Valid n m map.now × (bench_words n ≤ length bench.old) × WellShaped n m (parse n bench.old) }
-    ensures answer { said_turn result ≡ turn_told side (parse n bench.old) }
-    ensures bench { bench.new ≡ words (turned side map.now (parse n bench.old)) }
+// The crossing that a half settles next, or none where the half is done.
+fn next(lent: &Shaped, side: Side) -> Option<usize>
+    ensures none { IfNone result (done_of side (parse lent.now.roads.n lent.now.bench.words.now) ≡ true) }
+    ensures some { IfSome result (λ x. Between 1 lent.now.roads.n x × (done_of side (parse lent.now.roads.n lent.now.bench.words.now) ≡ false) × (next_of side (parse lent.now.roads.n lent.now.bench.words.now) ≡ x)) }
 {
-    let x = rules::nearest(bench, n, side);
-    if x == 0 {
-        return Turn::Done;
+    let bench = &lent.bench;
+    let half = bench.half(side);
+    let x = half.nearest_open()?;
+    if shape::beyond(bench.stretch(), bench.optimum(), half.entry(x).dist) {
+        return None;
     }
-    let d = rules::distance(bench, n, side, x);
-    if shape::beyond(bench[4], bench[5], d) {
-        return Turn::Done;
-    }
-    writing::take(map, n, m, side, x, d, bench);
-    Turn::Settled(x as u32, d)
+    Some(x)
 }
 
-fn take_turn(map: &[u32], n: u32, m: u32, side: Side, bench: &mut [u32]) -> Turn
+// One turn of the half of a side.
+#[tactic(auto, using(crate::proofs::Laws::refused_says, crate::proofs::Laws::refused_keeps, crate::proofs::Laws::passed_says, crate::proofs::Laws::passed_writes), unfolding(crate::specs::Calls::turn_said, crate::specs::Calls::turn_words, crate::specs::Calls::turn_fault))]
+pub fn take_turn(
+    map: &[u32],
+    n: u32,
+    m: u32,
+    side: Side,
+    bench: &mut [u32],
+) -> Result<Turn, Refusal>
     ensures answer { said_turn result ≡ turn_said side map.now n m bench.old }
     ensures bench { bench.new ≡ turn_words side map.now n m bench.old }
 {
-    let fault = shaped::lent_fault(map, n, m, 0, bench);
-    if fault != 0 {
-        return Turn::Refused(fault);
-    }
-    advance(map, n as usize, m as usize, side, bench)
+    let lent = shaped::check_lent(map, n, m, Ok(()), bench)?;
+    let Some(x) = next(&lent, side) else {
+        return Ok(Turn::Done);
+    };
+    let d = lent.bench.half(side).entry(x).dist;
+    let roads = lent.roads;
+    writing::take(&roads, side, x, d, bench);
+    Ok(Turn::Settled(x as u32, d))
 }
 
 // One turn of the forward half.
-pub fn forward(map: &[u32], n: u32, m: u32, bench: &mut [u32]) -> Turn
+pub fn forward(map: &[u32], n: u32, m: u32, bench: &mut [u32]) -> Result<Turn, Refusal>
     ensures answer { said_turn result ≡ turn_said Forward map.now n m bench.old }
     ensures bench { bench.new ≡ turn_words Forward map.now n m bench.old }
 {
@@ -130,7 +118,7 @@ pub fn forward(map: &[u32], n: u32, m: u32, bench: &mut [u32]) -> Turn
 }
 
 // One turn of the backward half.
-pub fn backward(map: &[u32], n: u32, m: u32, bench: &mut [u32]) -> Turn
+pub fn backward(map: &[u32], n: u32, m: u32, bench: &mut [u32]) -> Result<Turn, Refusal>
     ensures answer { said_turn result ≡ turn_said Backward map.now n m bench.old }
     ensures bench { bench.new ≡ turn_words Backward map.now n m bench.old }
 {
@@ -140,21 +128,27 @@ pub fn backward(map: &[u32], n: u32, m: u32, bench: &mut [u32]) -> Turn
 // ---- area
 
 // Fills the first n bytes of the mask: 0 unmarked, 1 in B only, 2 also in BL.
-pub fn area(map: &[u32], n: u32, m: u32, bench: &[u32], locality: u32, mask: &mut [u8]) -> Filling
+#[tactic(auto, using(crate::proofs::Laws::refused_says, crate::proofs::Laws::refused_keeps, crate::proofs::Laws::passed_says, crate::proofs::Laws::passed_writes), unfolding(crate::specs::Areas::area_said, crate::specs::Areas::area_mask))]
+pub fn area(
+    map: &[u32],
+    n: u32,
+    m: u32,
+    bench: &[u32],
+    locality: u32,
+    mask: &mut [u8],
+) -> Result<(), Refusal>
     ensures answer { said_filling result ≡ area_said map.now n m bench.now locality mask.old }
     ensures mask { mask.new ≡ area_mask map.now n m bench.now locality mask.old }
 {
-    let fault = area::area_fault(map, n, m, bench, locality, mask.len());
-    if fault != 0 {
-        return Filling::Refused(fault);
-    }
-    area::fill_area(map, n, m, bench, locality, mask);
-    Filling::Area
+    let finished = area::check_area(map, n, m, bench, locality, mask.len())?;
+    area::fill_area(&finished, locality, mask);
+    Ok(())
 }
 
 // ---- route
 
-// Fills the buffer with the route through a marked crossing.
+// Fills the buffer with the route through a marked crossing; answers its length.
+#[tactic(auto, using(crate::proofs::Laws::refused_says, crate::proofs::Laws::refused_keeps, crate::proofs::Laws::passed_says, crate::proofs::Laws::passed_writes), unfolding(crate::specs::Routes::route_said, crate::specs::Routes::route_buffer))]
 pub fn fill_route(
     map: &[u32],
     n: u32,
@@ -162,19 +156,16 @@ pub fn fill_route(
     bench: &[u32],
     crossing: u32,
     buffer: &mut [u32],
-) -> Routing
+) -> Result<u32, Refusal>
     ensures answer { said_routing result ≡ route_said map.now n m bench.now crossing buffer.old }
     ensures buffer { buffer.new ≡ route_buffer map.now n m bench.now crossing buffer.old }
 {
-    let fault = area::route_fault(map, n, m, bench, crossing, buffer.len());
-    if fault != 0 {
-        return Routing::Refused(fault);
-    }
-    let k = area::write_route(map, n as usize, bench, crossing, buffer);
-    Routing::Length(k as u32)
+    let finished = area::check_route(map, n, m, bench, crossing, buffer.len())?;
+    let length = area::write_route(&finished, crossing, buffer);
+    Ok(length as u32)
 }
 
-// The companion of the route call: its number of refusal, or 0.
+// The companion of the route call: whether it would refuse.
 pub fn route_refusal(
     map: &[u32],
     n: u32,
@@ -182,20 +173,11 @@ pub fn route_refusal(
     bench: &[u32],
     crossing: u32,
     buffer: &[u32],
-) -> u32
-    ensures { result ≡ route_fault map.now n m bench.now crossing (length buffer.now) }
+) -> Result<(), Refusal>
+    ensures { fault_of result ≡ route_fault map.now n m bench.now crossing (length buffer.now) }
 {
-    area::route_fault(map, n, m, bench, crossing, buffer.len())
-}
-
-// How many words are filled.
-fn filled_words(routing: Routing) -> usize
-    ensures { result ≡ filled_words routing }
-{
-    match routing {
-        Routing::Length(k) => k as usize,
-        Routing::Refused(_) => 0,
-    }
+    area::check_route(map, n, m, bench, crossing, buffer.len())?;
+    Ok(())
 }
 
 // Hands back the filled part of the buffer; no words on a refusal.
@@ -209,6 +191,6 @@ pub fn route<'a>(
 ) -> &'a mut [u32]
     ensures { (result.now ≡ route_part map.now n m bench.now crossing buffer.old) × (result.ref_ptr ≡ buffer.entry.ref_ptr) }
 {
-    let k = filled_words(fill_route(map, n, m, bench, crossing, buffer));
-    &mut buffer[..k]
+    let filled = fill_route(map, n, m, bench, crossing, buffer).unwrap_or(0);
+    &mut buffer[..filled as usize]
 }

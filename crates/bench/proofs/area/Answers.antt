@@ -1,13 +1,15 @@
 -- `bench::area` meets its contract. Assumes nothing.
-use Rattle.bench.proofs.Areas.{area_refused, area_goes}
+use Rattle.bench.proofs.Areas.{area_room, area_goes}
 use Rattle.bench.proofs.area.Goals as goal
 
-pub returns-then-fault-ne0 : goal.returns-then-fault-ne0
-returns-then-fault-ne0 c = let s = c.args in
-    let said = area_refused s.map.now s.n s.m s.bench.now s.locality s.mask.now c.area_fault-fault.ensures c.if-fault-ne0.true in
-    record { answer = said.0; mask = said.1 }
+pub fill_area-requires : goal.fill_area-requires
+fill_area-requires c =
+    let a = c.args in
+    let f = c.in_ok-finished.ensures in
+    rw f.lent.1 (area_room a.map.now a.n a.m a.bench.now a.locality a.mask.now f.fault)
 
-pub returns : goal.returns
-returns c = let s = c.args in
-    let said = area_goes s.map.now s.n s.m s.bench.now s.locality s.mask.now c.area_fault-fault.ensures c.if-fault-ne0.false c.fill_area.ensures in
-    record { answer = said.0; mask = said.1 }
+pub returns-clause-mask : goal.returns-clause-mask
+returns-clause-mask c =
+    let a = c.args in
+    let f = c.in_ok-finished.ensures in
+    area_goes a.map.now a.n a.m a.bench.now a.locality a.mask.now f.fault (rw (f.lent.0, f.lent.1, f.lent.2) at c.fill_area.ensures)

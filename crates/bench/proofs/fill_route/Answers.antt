@@ -1,20 +1,23 @@
 -- `bench::fill_route` meets its contract. Assumes nothing.
-use native.Mathlib.Omega.{arith}
-use Rattle.bench.proofs.Routes.{fill_refused, fill_ready, fill_goes, fill_short}
+use Rattle.std.proofs.Common.{arith}
+use Rattle.bench.proofs.Routes.{fill_ready, fill_goes, fill_short}
 use Rattle.bench.proofs.fill_route.Goals as goal
 
-pub returns-then-fault-ne0 : goal.returns-then-fault-ne0
-returns-then-fault-ne0 c =
-    let said = fill_refused _ _ _ _ _ _ c.route_fault-fault.ensures c.if-fault-ne0.true in
-    record { answer = said.0; buffer = said.1 }
-
-pub write_route-k-requires : goal.write_route-k-requires
-write_route-k-requires c = fill_ready _ _ _ _ _ c.args.buffer.now c.route_fault-fault.ensures c.if-fault-ne0.false
+pub write_route-length-requires : goal.write_route-length-requires
+write_route-length-requires c =
+    let a = c.args in
+    let f = c.in_ok-finished.ensures in
+    let r = fill_ready a.map.now a.n a.m a.bench.now a.crossing a.buffer.now f.fault in
+    rw (f.lent.0, f.lent.1, f.lent.2) (r.inside, r.asked)
 
 pub overflow_cast-result : goal.overflow_cast-result
-overflow_cast-result c = omega (arith, fill_short _ _ _ _ _ c.args.buffer.now c.route_fault-fault.ensures c.if-fault-ne0.false, c.write_route-k.ensures.0)
+overflow_cast-result c =
+    let a = c.args in
+    let f = c.in_ok-finished.ensures in
+    omega (arith, rw (f.lent.0, f.lent.1, f.lent.2) at c.write_route-length.ensures.0, fill_short a.map.now a.n a.m a.bench.now a.crossing a.buffer.now f.fault)
 
-pub returns : goal.returns
-returns c = let w = c.write_route-k.ensures in
-    let said = fill_goes _ _ _ _ _ _ c.route_fault-fault.ensures c.if-fault-ne0.false w.0 w.1 in
-    record { answer = said.0; buffer = said.1 }
+pub returns-clause-buffer : goal.returns-clause-buffer
+returns-clause-buffer c =
+    let a = c.args in
+    let f = c.in_ok-finished.ensures in
+    fill_goes a.map.now a.n a.m a.bench.now a.crossing a.buffer.now f.fault (rw (f.lent.0, f.lent.1, f.lent.2) at c.write_route-length.ensures.1)

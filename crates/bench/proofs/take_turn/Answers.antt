@@ -1,20 +1,22 @@
 -- `bench::take_turn` meets its contract. Assumes nothing.
-use mathlib.Core.Path.{sym, ◌∙◌}
-use Rattle.shaped.proofs.Lent.{lent_ready}
-use Rattle.bench.proofs.Laws.{turn_refused, turn_goes}
+use Rattle.std.proofs.Common.{◌≡◌, rules}
+use Rattle.half.specs.Half.{dist}
+use Rattle.shape.specs.Bench.{half, parse}
+use Rattle.bench.proofs.Laws.{turn_stays, turn_settles}
 use Rattle.bench.proofs.take_turn.Goals as goal
 
-pub returns-then-fault-ne0 : goal.returns-then-fault-ne0
-returns-then-fault-ne0 c =
-    let said = turn_refused _ _ _ _ c.lent_fault-fault.ensures _ c.if-fault-ne0.true in
+pub returns-in_default : goal.returns-in_default
+returns-in_default c =
+    let a = c.args in
+    let l = c.in_ok-lent.ensures in
+    let said = turn_stays a.map.now a.n a.m a.bench.now a.side l.fault (rw (l.lent.1, l.lent.3) at c.in_default.ensures.none) in
     record { answer = said.0; bench = said.1 }
-
-pub advance-requires : goal.advance-requires
-advance-requires c =
-    let r = (lent_ready _ _ _ 0 _ (sym c.lent_fault-fault.ensures ∙ c.if-fault-ne0.false)).1 in
-    (r.valid, r.room, r.shaped)
 
 pub returns : goal.returns
 returns c =
-    let said = turn_goes _ _ _ _ c.lent_fault-fault.ensures _ c.if-fault-ne0.false c.advance.ensures.answer c.advance.ensures.bench in
+    let a = c.args in
+    let l = c.in_ok-lent.ensures in
+    let x = rw (l.lent.1, l.lent.3) at c.in-Some.ensures.some in
+    let d : c.entry-d.result.dist ≡ dist (half a.side (parse a.n a.bench.now)) c.in-Some.x = search rules in
+    let said = turn_settles a.map.now a.n a.m a.bench.now a.side l.fault x.1 x.2 d (rw (l.lent.0, l.lent.1) at c.take.ensures) in
     record { answer = said.0; bench = said.1 }
