@@ -1,6 +1,7 @@
 -- The reader refuses with 1 to 5, by the table of a line. Assumes nothing.
 use mathlib.Core.Logic.{◌≢◌}
 use mathlib.Core.List.{List, [], ◌∷◌}
+use Rattle.std.specs.Prelude.{Result, Ok, Err}
 use Prim.Native.Nat.{ℕ, ◌+◌}
 use native.Mathlib.Omega.{arith}
 use borrow.Author.Tests.{eqb-false}
@@ -11,12 +12,11 @@ use Rattle.limits.proofs.Cases.{cond_both, cond_cases}
 use Rattle.line.specs.Line.{line_of}
 use Rattle.line.specs.Lines.{lines_of}
 use Rattle.line.specs.declared.Line.{Line}
-use Rattle.line.specs.declared.Line.TheVariants.{Comment, Size, Link, Strange, Wrong}
-use Rattle.step.specs.Step.{state_of, step_by, size_step, link_step, taken, step_then}
-use Rattle.step.specs.declared.Fault.{Fault}
+use Rattle.line.specs.declared.Line.TheVariants.{Comment, Size, Link}
+use Rattle.line.specs.declared.NoLine.{NoLine}
+use Rattle.line.specs.declared.NoLine.TheVariants.{Strange, Wrong}
+use Rattle.step.specs.Step.{FaultAt, state_of, step_by, size_step, link_step, taken, step_then}
 use Rattle.step.specs.declared.State.{State}
-use Rattle.step.specs.declared.Step.{Step}
-use Rattle.step.specs.declared.Step.TheVariants.{Go, Stop}
 use Rattle.text.specs.Text.{finish, read_lines, read_text}
 use Rattle.table.specs.Table.{Judged, line_checks, stop_number}
 use Rattle.table.proofs.Numbers.{Numbered, told_numbered, refused_numbered}
@@ -27,29 +27,28 @@ abbrev Read : Said → Type 0
 Read = Numbered 1 5
 
 -- where a line stops, it is with a number
-abbrev Stops : Step → Type 0
-Stops (Go st) = Unit {0}
-Stops (Stop fault) = fault.number ≢ 0
+abbrev Stops : Result State FaultAt → Type 0
+Stops (Ok st) = Unit {0}
+Stops (Err fault) = fault.number ≢ 0
 
-step_stops : (fault : Fault) (st : State) → Stops (step_by fault st)
+step_stops : (fault : FaultAt) (st : State) → Stops (step_by fault st)
 unfolding step_by
 step_stops fault st = cond_cases Stops (eqb fault.number 0) (λ _. tt) (λ e. eqb-false _ _ e)
 
-line_stops : (room : ℕ) (st : State) (l : Line) → Stops (taken room st l)
+line_stops : (room : ℕ) (st : State) (l : Result Line NoLine) → Stops (taken room st l)
 unfolding taken size_step link_step
-line_stops room st Comment = tt
-line_stops room st (Size n m) = cond_both Stops (eqb st.n 0) (step_stops _ _) (λ e. omega arith)
-line_stops room st (Link u v w) = cond_both Stops (ltb st.k st.m) (step_stops _ _) (λ e. omega arith)
-line_stops room st (Strange p) = λ e. omega arith
-line_stops room st (Wrong p) = λ e. omega arith
+line_stops room st (Ok Comment) = tt
+line_stops room st (Ok (Size n m)) = cond_both Stops (eqb st.n 0) (step_stops _ _) (λ e. omega arith)
+line_stops room st (Ok (Link u v w)) = cond_both Stops (ltb st.k st.m) (step_stops _ _) (λ e. omega arith)
+line_stops room st (Err (Strange p)) = λ e. omega arith
+line_stops room st (Err (Wrong p)) = λ e. omega arith
 
-line_numbers : (room : ℕ) (st : State) (l : Line) → Numbers 1 5 (line_checks room st l)
+line_numbers : (room : ℕ) (st : State) (l : Result Line NoLine) → Numbers 1 5 (line_checks room st l)
 unfolding line_checks
-line_numbers room st Comment = tt
-line_numbers room st (Size n m) = (omega arith, (omega arith, (omega arith, (omega arith, tt))))
-line_numbers room st (Link u v w) = (omega arith, (omega arith, (omega arith, (omega arith, tt))))
-line_numbers room st (Strange p) = (omega arith, tt)
-line_numbers room st (Wrong p) = (omega arith, tt)
+line_numbers room st (Ok Comment) = tt
+line_numbers room st (Ok (Size n m)) = (omega arith, (omega arith, (omega arith, (omega arith, tt))))
+line_numbers room st (Ok (Link u v w)) = (omega arith, (omega arith, (omega arith, (omega arith, tt))))
+line_numbers room st (Err none) = (omega arith, tt)
 
 lines_numbered : (room : ℕ) (st : State) (at : ℕ) (ls : List (List ℕ)) → Read (read_lines room st at ls)
 unfolding read_lines finish
@@ -59,10 +58,10 @@ lines_numbered room st at [] =
 lines_numbered room st at (l ∷ ls) =
     go (taken room st (line_of l)) (line_table room st (line_of l)) (line_stops room st (line_of l)) (λ next. lines_numbered room next (at + 1) ls)
   where
-    go : (x : Step) → Judged (line_checks room st (line_of l)) (stop_number x) → Stops x → ((next : State) → Read (read_lines room next (at + 1) ls))
+    go : (x : Result State FaultAt) → Judged (line_checks room st (line_of l)) (stop_number x) → Stops x → ((next : State) → Read (read_lines room next (at + 1) ls))
         → Read (step_then x (λ next. read_lines room next (at + 1) ls) (λ fault. refused fault.number (at ∷ [])))
-    go (Go next) j p rest = rest next
-    go (Stop fault) j p rest =
+    go (Ok next) j p rest = rest next
+    go (Err fault) j p rest =
         refused_numbered 1 5 fault.number (at ∷ [])
         (judged_in 1 5 (line_checks room st (line_of l)) fault.number (line_numbers room st (line_of l)) j p)
 

@@ -3,6 +3,7 @@ use mathlib.Core.Path.{◌≡◌, refl, sym, ◌∙◌}
 use mathlib.Core.Bool.{Bool, true, false, cond}
 use mathlib.Core.Logic.{◌≢◌, inr}
 use mathlib.Core.List.{List, [], ◌∷◌, ◌++◌}
+use Rattle.std.specs.Prelude.{Ok, Err}
 use Prim.Native.Nat.{ℕ, zero, suc, ◌+◌, ◌*◌, ◌-◌, ◌≤◌, ◌<◌}
 use native.Mathlib.Omega.{arith}
 use borrow.Author.Tests.{eq-eqb, ne_eqb, eqb-true, eqb-false, ltb-true, ltb-false}
@@ -11,11 +12,10 @@ use lib.ListN.{length, get_or}
 use Rattle.limits.specs.First.{or_else, first_from}
 use Rattle.limits.specs.Limits.{room_fault}
 use Rattle.limits.proofs.Laws.{or_else_first, or_else_second, or_else_none, none_or_else, room_none}
-use Rattle.line.specs.declared.Line.TheVariants.{Comment, Size, Link, Strange, Wrong}
-use Rattle.step.specs.Step.{fault_at, state_of, first_of, size_fault, link_fault, step_by, size_step, link_step, taken}
-use Rattle.step.specs.declared.Fault.{Fault}
+use Rattle.line.specs.declared.Line.TheVariants.{Comment, Size, Link}
+use Rattle.line.specs.declared.NoLine.TheVariants.{Strange, Wrong}
+use Rattle.step.specs.Step.{FaultAt, fault_at, state_of, first_of, size_fault, link_fault, step_by, size_step, link_step, taken}
 use Rattle.step.specs.declared.State.{State}
-use Rattle.step.specs.declared.Step.TheVariants.{Go, Stop}
 use Rattle.map.specs.Map as maps
 use Rattle.map.specs.declared.Side.{Side}
 use Rattle.map.specs.declared.Side.TheVariants.{Forward, Backward}
@@ -26,7 +26,7 @@ use Rattle.shaped.specs.Shape.{shape_fault}
 use Rattle.shaped.specs.Lent.{lent_fault}
 use Rattle.shape.proofs.Rounds.{parse_room}
 use Rattle.shaped.proofs.Lent.{Ready, lent_ready}
-use Rattle.shaped.proofs.Shaped.{fault_shaped, shaped_fault}
+use Rattle.shaped.proofs.Shapes.{fault_shaped, shaped_fault}
 use Rattle.trail.specs.Sound.{SoundHalf, MarksSound}
 use Rattle.trail.proofs.Soundness.{fault_sound, sound_fault_lem, fault_marks, marks_fault_lem}
 use Rattle.route.specs.Area.{route_of}
@@ -189,7 +189,7 @@ module _ (map : List ℕ) (n m : ℕ) where
 
 -- ---- a line that is read
 
-first_number : (a b : Fault) → (first_of a b).number ≡ or_else a.number b.number
+first_number : (a b : FaultAt) → (first_of a b).number ≡ or_else a.number b.number
 unfolding first_of or_else
 first_number a b = go (eqb a.number 0)
   where
@@ -197,33 +197,33 @@ first_number a b = go (eqb a.number 0)
     go true = refl
     go false = refl
 
-step_number : (fault : Fault) (st : State) → stop_number (step_by fault st) ≡ fault.number
+step_number : (fault : FaultAt) (st : State) → stop_number (step_by fault st) ≡ fault.number
 unfolding step_by
 step_number fault st = go (eqb fault.number 0) refl
   where
-    go : (t : Bool) → eqb fault.number 0 ≡ t → stop_number (cond t (Go st) (Stop fault)) ≡ fault.number
+    go : (t : Bool) → eqb fault.number 0 ≡ t → stop_number (cond t (Ok st) (Err fault)) ≡ fault.number
     go true e = sym (eqb-true _ _ e)
     go false e = refl
 
 -- 1 before the others
-due : (t : Bool) (fault : Fault) (st : State) → stop_number (cond t (step_by fault st) (Stop (fault_at 1 0))) ≡ or_else (cond t 0 1) fault.number
+due : (t : Bool) (fault : FaultAt) (st : State) → stop_number (cond t (step_by fault st) (Err (fault_at 1 0))) ≡ or_else (cond t 0 1) fault.number
 due true fault st = step_number fault st ∙ sym (or_else_second 0 _ refl)
 due false fault st = sym (or_else_first 1 _ (λ e. omega arith))
 
 pub line_table : LineTable
 unfolding line_checks taken size_step link_step size_fault link_fault so in_range up_to has_room one both
-line_table room st Comment = refl
-line_table room st (Size n m) =
+line_table room st (Ok Comment) = refl
+line_table room st (Ok (Size n m)) =
     rw (due (eqb st.n 0) (size_fault room n m) (state_of n.value m.value 0))
     (simp first_number
     (both (so 1 (eqb st.n 0) (omega arith) (eqb-true _ _) (eqb-false _ _))
     (both (in_range 1 4096 2 n.value (omega arith)) (both (up_to 16384 2 m.value (omega arith)) (has_room (3 * m.value) room)))
     ).judged)
-line_table room st (Link u v w) =
+line_table room st (Ok (Link u v w)) =
     rw (due (ltb st.k st.m) (link_fault st.n u v w) (state_of st.n st.m (st.k + 1)))
     (simp first_number
     (both (so 1 (ltb st.k st.m) (omega arith) (ltb-true _ _) (λ e (lt : st.k < st.m). omega (arith, ltb-false st.k st.m e)))
     (both (in_range 1 st.n 4 u.value (omega arith)) (both (in_range 1 st.n 4 v.value (omega arith)) (in_range 1 65535 5 w.value (omega arith))))
     ).judged)
-line_table room st (Strange p) = inr (λ e. e, refl)
-line_table room st (Wrong p) = inr (λ e. e, refl)
+line_table room st (Err (Strange p)) = inr (λ e. e, refl)
+line_table room st (Err (Wrong p)) = inr (λ e. e, refl)

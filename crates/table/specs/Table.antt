@@ -1,13 +1,12 @@
 -- "Numbers of refusal": the checks of every call on a map, and of a line that is read, in the document's order, each with its number and what it
 -- asks. Assumes nothing.
-use Rattle.std.specs.Prelude.{◌≡◌, true, ◌≢◌, ◌⊎◌, List, [], ◌∷◌, ◌++◌, ℕ, zero, suc, ◌*◌, ◌-◌, ◌≤◌, ◌<◌, length, get_or}
+use Rattle.std.specs.Prelude.{◌≡◌, true, ◌≢◌, ◌⊎◌, List, [], ◌∷◌, ◌++◌, Result, Ok, Err, ℕ, zero, suc, ◌*◌, ◌-◌, ◌≤◌, ◌<◌, length, get_or}
 use Rattle.limits.specs.Limits.{Between}
 use Rattle.line.specs.declared.Line.{Line}
-use Rattle.line.specs.declared.Line.TheVariants.{Comment, Size, Link, Strange, Wrong}
-use Rattle.step.specs.Step.{taken}
+use Rattle.line.specs.declared.Line.TheVariants.{Comment, Size, Link}
+use Rattle.line.specs.declared.NoLine.{NoLine}
+use Rattle.step.specs.Step.{FaultAt, taken}
 use Rattle.step.specs.declared.State.{State}
-use Rattle.step.specs.declared.Step.{Step}
-use Rattle.step.specs.declared.Step.TheVariants.{Go, Stop}
 use Rattle.map.specs.Map.{tail, head, cost, map_fault}
 use Rattle.map.specs.declared.Side.{Side}
 use Rattle.half.specs.Half.{unknown, ceiling}
@@ -31,26 +30,25 @@ Judged (unless given asked ∷ rest) number = (asked × Judged rest number) ⊎ 
 -- ---- the reader: "line by line the first fault; within a line 1 (an `a` beyond M included), 2, 3, 4 for U then V, 5"
 
 -- a line as it is read in a state, for a map that has room for so many words; what is no line of the layout is never so
-unfoldable pub line_checks : ℕ → State → Line → List Check
-line_checks room st Comment = []
-line_checks room st (Size n m) =
+unfoldable pub line_checks : ℕ → State → Result Line NoLine → List Check
+line_checks room st (Ok Comment) = []
+line_checks room st (Ok (Size n m)) =
     unless 1 (st.n ≡ 0) ∷ unless 2 (Between 1 4096 n.value) ∷ unless 2 (m.value ≤ 16384) ∷ unless 3 (3 * m.value ≤ room) ∷ []
-line_checks room st (Link u v w) =
+line_checks room st (Ok (Link u v w)) =
     unless 1 (st.k < st.m)
     ∷ unless 4 (Between 1 st.n u.value)
     ∷ unless 4 (Between 1 st.n v.value)
     ∷ unless 5 (Between 1 65535 w.value)
     ∷ []
-line_checks room st (Strange p) = unless 1 ⊥ ∷ []
-line_checks room st (Wrong p) = unless 1 ⊥ ∷ []
+line_checks room st (Err none) = unless 1 ⊥ ∷ []
 
 -- the number with which a line stops, 0 where it goes on
-abbrev pub stop_number : Step → ℕ
-stop_number (Go st) = 0
-stop_number (Stop fault) = fault.number
+abbrev pub stop_number : Result State FaultAt → ℕ
+stop_number (Ok st) = 0
+stop_number (Err fault) = fault.number
 
 abbrev pub LineTable : Type 0
-LineTable = (room : ℕ) (st : State) (l : Line) → Judged (line_checks room st l) (stop_number (taken room st l))
+LineTable = (room : ℕ) (st : State) (l : Result Line NoLine) → Judged (line_checks room st l) (stop_number (taken room st l))
 
 -- ---- the calls on a map
 
