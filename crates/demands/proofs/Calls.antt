@@ -4,7 +4,7 @@ use mathlib.Core.List.{List, [], ◌∷◌}
 use Prim.Native.Nat.{ℕ, ◌+◌, ◌≤◌, ◌<◌}
 use native.Mathlib.Numerals.{add-one}
 use native.Mathlib.Omega.{arith}
-use borrow.Author.Tests.{eq-eqb, ne_eqb, eqb-true}
+use borrow.Author.Tests.{eq-eqb, eqb-true}
 use lib.Dec.{eqb}
 use lib.ListN.{length, get_or, drop, length-append, drop_of_length-le}
 use lib.Seq.{drop-cons}
@@ -21,7 +21,7 @@ use Rattle.shape.specs.Bench.{Bench, bench_words, words, opened, WellShaped}
 use Rattle.shape.specs.Rules.{turned, turn_told}
 use Rattle.shape.proofs.Rounds.{Room, shaped_room, parse_words}
 use Rattle.shaped.specs.Lent.{lent_fault}
-use Rattle.shaped.proofs.Shaped.{shaped_fault, opened_shaped}
+use Rattle.shaped.proofs.Shapes.{shaped_fault, opened_shaped}
 use Rattle.shape.proofs.Turns.{turned_shaped}
 use Rattle.bench.specs.Calls.{judged, order_fault, open_fault, open_said, open_words, turn_fault, turn_said, turn_words}
 use Rattle.demands.specs.Mixture.{Order, run}
@@ -88,12 +88,6 @@ unfolding open_words mixture_words
 mixture_refused map n m start target stretch x e schedule p = rw e (p ∙ rw e)
 
 -- ---- the ways that the code goes
-
-pub side_forward : (byte : ℕ) → byte ≡ 0 → Forward ≡ side_of byte
-side_forward byte e = rw (eq-eqb byte 0 e)
-
-pub side_backward : (byte : ℕ) → (byte ≡ 0 → ⊥) → Backward ≡ side_of byte
-side_backward byte e = rw (ne_eqb byte 0 e)
 
 module _ (map : List ℕ) (n m : ℕ) (schedule x : List ℕ) {i : ℕ} where
   pub turns_more : i < length schedule → {y : List ℕ} → y ≡ turn_words (side_of (get_or schedule i 0)) map n m x
