@@ -1,141 +1,108 @@
 // One row about a bench: the call that it asks for, and its answer printed.
 #![tactic(auto)]
 
-use bench::{Filling, Opening, Routing, Turn};
+use bench::Turn;
+use limits::Refusal;
+use std::fmt::Display;
 use std::io;
 use std::io::Write;
 
-fn print_refused<W: Write>(out: &mut W, number: u32) -> io::Result<()> {
-    rows::print(out, b" refused")?;
-    rows::print_number(out, number)
+// The map that a call is lent.
+#[derive(Clone, Copy)]
+pub struct Lent<'a> {
+    pub map: &'a [u32],
+    pub n: u32,
+    pub m: u32,
+}
+
+fn print_refused<W: Write>(out: &mut W, refusal: Refusal) -> io::Result<()> {
+    write!(out, " refused {}", refusal.number())
+}
+
+// The words or bytes that a call was lent, or a part of them.
+fn print_lent<W: Write, T: Display>(out: &mut W, lent: &[T]) -> io::Result<()> {
+    write!(out, " :")?;
+    rows::print_numbers(out, lent)
 }
 
 pub fn open_row<W: Write>(
     out: &mut W,
-    map: &[u32],
-    n: u32,
-    m: u32,
+    lent: Lent,
     order: [u32; 3],
     bench: &mut [u32],
 ) -> io::Result<()> {
-    match bench::open_bench(map, n, m, order[0], order[1], order[2], bench) {
-        Opening::Opened => rows::print(out, b" opened"),
-        Opening::Refused(number) => print_refused(out, number),
+    let [start, target, stretch] = order;
+    match bench::open_bench(lent.map, lent.n, lent.m, start, target, stretch, bench) {
+        Ok(()) => write!(out, " opened"),
+        Err(refusal) => print_refused(out, refusal),
     }
 }
 
-pub fn print_turn<W: Write>(out: &mut W, turn: Turn) -> io::Result<()> {
+pub fn print_turn<W: Write>(out: &mut W, turn: Result<Turn, Refusal>) -> io::Result<()> {
     match turn {
-        Turn::Settled(crossing, distance) => {
-            rows::print(out, b" settled")?;
-            rows::print_words(out, &[crossing, distance])
-        }
-        Turn::Done => rows::print(out, b" done"),
-        Turn::Refused(number) => print_refused(out, number),
+        Ok(Turn::Settled(crossing, distance)) => write!(out, " settled {crossing} {distance}"),
+        Ok(Turn::Done) => write!(out, " done"),
+        Err(refusal) => print_refused(out, refusal),
     }
 }
 
-fn word(x: u8) -> u32 {
-    x as u32
-}
-
-fn print_bytes<W: Write>(out: &mut W, bytes: &[u8]) -> io::Result<()> {
-    let mut i = 0;
-    while i < bytes.len() {
-        rows::print_number(out, word(bytes[i]))?;
-        i += 1;
-    }
-    Ok(())
-}
-
-fn fill_mask<W: Write>(
-    out: &mut W,
-    map: &[u32],
-    n: u32,
-    m: u32,
-    bench: &[u32],
-    locality: u32,
-    mask: &mut [u8],
-) -> io::Result<()> {
-    match bench::area(map, n, m, bench, locality, mask) {
-        Filling::Area => rows::print(out, b" area")?,
-        Filling::Refused(number) => print_refused(out, number)?,
-    }
-    rows::print(out, b" :")?;
-    print_bytes(out, mask)
-}
-
+// The area, with a mask of so many bytes, each of them 9.
 pub fn area_row<W: Write>(
     out: &mut W,
-    map: &[u32],
-    n: u32,
-    m: u32,
+    lent: Lent,
     bench: &[u32],
     locality: u32,
     room: usize,
 ) -> io::Result<()> {
     let mut mask = [9u8; 16];
-    if 16 < room {
+    if mask.len() < room {
         return Ok(());
     }
-    fill_mask(out, map, n, m, bench, locality, &mut mask[0..room])
-}
-
-fn fill_route<W: Write>(
-    out: &mut W,
-    map: &[u32],
-    n: u32,
-    m: u32,
-    bench: &[u32],
-    crossing: u32,
-    buffer: &mut [u32],
-) -> io::Result<()> {
-    match bench::fill_route(map, n, m, bench, crossing, buffer) {
-        Routing::Length(k) => {
-            rows::print(out, b" route")?;
-            rows::print_number(out, k)?;
-        }
-        Routing::Refused(number) => print_refused(out, number)?,
+    let mask = &mut mask[..room];
+    match bench::area(lent.map, lent.n, lent.m, bench, locality, mask) {
+        Ok(()) => write!(out, " area")?,
+        Err(refusal) => print_refused(out, refusal)?,
     }
-    rows::print(out, b" :")?;
-    rows::print_words(out, buffer)
+    print_lent(out, mask)
 }
 
-fn hand_back<W: Write>(
-    out: &mut W,
-    map: &[u32],
-    n: u32,
-    m: u32,
-    bench: &[u32],
-    crossing: u32,
-    buffer: &mut [u32],
-) -> io::Result<()> {
-    rows::print(out, b" handed")?;
-    rows::print_number(
-        out,
-        bench::route_refusal(map, n, m, bench, crossing, buffer),
-    )?;
-    rows::print(out, b" :")?;
-    let part = bench::route(map, n, m, bench, crossing, buffer);
-    rows::print_words(out, part)
-}
-
+// The route through a crossing, with a buffer of so many words, each of them 9.
 pub fn route_row<W: Write>(
     out: &mut W,
-    map: &[u32],
-    n: u32,
-    m: u32,
+    lent: Lent,
     bench: &[u32],
     crossing: u32,
     room: usize,
-    handed: bool,
 ) -> io::Result<()> {
     let mut buffer = [9u32; 16];
-    if 16 < room {
+    if buffer.len() < room {
         return Ok(());
     }
-    if handed {
-        return hand_back(out, map, n, m, bench, crossing, &mut buffer[0..room]);
+    let buffer = &mut buffer[..room];
+    match bench::fill_route(lent.map, lent.n, lent.m, bench, crossing, buffer) {
+        Ok(length) => write!(out, " route {length}")?,
+        Err(refusal) => print_refused(out, refusal)?,
     }
-    fill_route(out, map, n, m, bench, crossing, &mut buffer[0..room])
+    print_lent(out, buffer)
+}
+
+// The number of the companion call, and the part of such a buffer that is handed back.
+pub fn handed_row<W: Write>(
+    out: &mut W,
+    lent: Lent,
+    bench: &[u32],
+    crossing: u32,
+    room: usize,
+) -> io::Result<()> {
+    let mut buffer = [9u32; 16];
+    if buffer.len() < room {
+        return Ok(());
+    }
+    let buffer = &mut buffer[..room];
+    let refusal = bench::route_refusal(lent.map, lent.n, lent.m, bench, crossing, buffer);
+    write!(out, " handed {}", refusal.err().map_or(0, |r| r.number()))?;
+    print_lent(
+        out,
+        bench::route(lent.map, lent.n, lent.m, bench, crossing, buffer),
+    )
 }

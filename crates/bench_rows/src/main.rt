@@ -10,137 +10,99 @@
 // Any other row is a remark.
 #![tactic(auto)]
 
+use bench_row::Lent;
 use std::io;
 use std::io::Write;
 
-// How many numbers the row of the map had, and how many words the bench has.
-#[derive(Clone, Copy)]
+// What the rows so far have set: the numbers of the map's row, and the words of the bench, each with how many are in use.
+#[derive(Drop)]
 struct Setting {
-    numbers: usize,
+    numbers: [u32; 64],
+    count: usize,
+    words: [u32; 64],
     room: usize,
 }
 
-// A cast of its own asks for no fact about the array that the number stands in.
-fn index(x: u32) -> usize {
-    x as usize
-}
-
-fn put(bench: &mut [u32], place: usize, word: u32) {
-    if place < bench.len() {
-        bench[place] = word;
+fn put(bench: &mut [u32], place: u32, word: u32) {
+    if let Some(old) = bench.get_mut(place as usize) {
+        *old = word;
     }
 }
 
-// One row, on the numbers of the map's row and on the bench.
-fn run_row<W: Write>(out: &mut W, row: &[u8], order: &[u32], bench: &mut [u32]) -> io::Result<()> {
-    if row.len() == 0 {
+// A row that asks for a call, on the numbers of the map's row and on the bench.
+fn run_row<W: Write>(
+    out: &mut W,
+    kind: u8,
+    row: &[u8],
+    numbers: &[u32],
+    bench: &mut [u32],
+) -> io::Result<()> {
+    let [n, m, map @ ..] = numbers else {
         return Ok(());
-    }
-    if order.len() < 2 {
-        return Ok(());
-    }
-    let kind = row[0];
-    let n = order[0];
-    let m = order[1];
-    let map = &order[2..];
+    };
+    let lent = Lent { map, n: *n, m: *m };
     let mut given = [0u32; 3];
     rows::numbers(row, 2, &mut given);
+    let [a, b, _] = given;
     match kind {
-        b'o' => bench_row::open_row(out, map, n, m, given, bench),
-        b'f' => bench_row::print_turn(out, bench::forward(map, n, m, bench)),
-        b'b' => bench_row::print_turn(out, bench::backward(map, n, m, bench)),
+        b'o' => bench_row::open_row(out, lent, given, bench),
+        b'f' => bench_row::print_turn(out, bench::forward(map, *n, *m, bench)),
+        b'b' => bench_row::print_turn(out, bench::backward(map, *n, *m, bench)),
         b'p' => {
-            put(bench, index(given[0]), given[1]);
+            put(bench, a, b);
             Ok(())
         }
-        b'w' => rows::print_words(out, bench),
-        b'a' => bench_row::area_row(out, map, n, m, bench, given[0], index(given[1])),
-        b't' => bench_row::route_row(out, map, n, m, bench, given[0], index(given[1]), false),
-        b'h' => bench_row::route_row(out, map, n, m, bench, given[0], index(given[1]), true),
+        b'w' => rows::print_numbers(out, bench),
+        b'a' => bench_row::area_row(out, lent, bench, a, b as usize),
+        b't' => bench_row::route_row(out, lent, bench, a, b as usize),
+        b'h' => bench_row::handed_row(out, lent, bench, a, b as usize),
         _ => Ok(()),
     }
 }
 
-fn run_on<W: Write>(
-    out: &mut W,
-    row: &[u8],
-    setting: Setting,
-    numbers: &[u32],
-    words: &mut [u32],
-) -> io::Result<()> {
-    let k = setting.numbers;
-    let room = setting.room;
-    if numbers.len() < k {
+// Such a row on what is set; a bench that is longer than the words there are for it answers nothing.
+fn run_set<W: Write>(out: &mut W, kind: u8, row: &[u8], setting: &mut Setting) -> io::Result<()> {
+    let Some(numbers) = setting.numbers.get(..setting.count) else {
         return Ok(());
-    }
-    if words.len() < room {
+    };
+    let Some(bench) = setting.words.get_mut(..setting.room) else {
         return Ok(());
-    }
-    run_row(out, row, &numbers[0..k], &mut words[0..room])
-}
-
-fn fill(words: &mut [u32]) {
-    let mut i = 0;
-    while i < words.len() {
-        words[i] = 7;
-        i += 1;
-    }
+    };
+    run_row(out, kind, row, numbers, bench)
 }
 
 // A row that sets the map or the bench, or one that runs on them.
-fn any_row<W: Write>(
-    out: &mut W,
-    row: &[u8],
-    setting: Setting,
-    numbers: &mut [u32],
-    words: &mut [u32],
-) -> io::Result<Setting> {
-    if row.len() == 0 {
-        return Ok(setting);
-    }
-    rows::print(out, &row[0..row.len() - 1])?;
-    let kind = row[0];
-    if kind == b'm' {
-        let k = rows::numbers(row, 2, numbers);
-        rows::print(out, b"\n")?;
-        return Ok(Setting {
-            numbers: k,
-            room: setting.room,
-        });
-    }
-    if kind == b'r' {
-        let mut given = [0u32; 1];
-        rows::numbers(row, 2, &mut given);
-        fill(words);
-        rows::print(out, b"\n")?;
-        return Ok(Setting {
-            numbers: setting.numbers,
-            room: index(given[0]),
-        });
-    }
-    run_on(out, row, setting, numbers, words)?;
-    rows::print(out, b"\n")?;
-    Ok(setting)
-}
-
-fn run_rows<W: Write>(out: &mut W, rows: &[u8]) -> io::Result<()> {
-    let mut numbers = [0u32; 64];
-    let mut words = [0u32; 64];
-    let mut setting = Setting {
-        numbers: 0,
-        room: 0,
+fn any_row<W: Write>(out: &mut W, row: &[u8], setting: &mut Setting) -> io::Result<()> {
+    let [line @ .., _] = row else {
+        return Ok(());
     };
-    let mut at = 0;
-    while at < rows.len() {
-        let end = line::line_end(rows, at);
-        setting = any_row(out, &rows[at..end], setting, &mut numbers, &mut words)?;
-        at = end;
+    out.write_all(line)?;
+    match row[0] {
+        b'm' => setting.count = rows::numbers(row, 2, &mut setting.numbers),
+        b'r' => {
+            let mut given = [0u32; 1];
+            rows::numbers(row, 2, &mut given);
+            let [room] = given;
+            setting.words.fill(7);
+            setting.room = room as usize;
+        }
+        kind => run_set(out, kind, row, setting)?,
     }
-    Ok(())
+    writeln!(out)
 }
 
 fn main(rt: HostRuntime) -> io::Result<()> {
     let mut rows = [0u8; 65536];
     let n = rows::read_full(&mut rt.stdin(), &mut rows);
-    run_rows(&mut rt.stdout(), &rows[..n])
+    let mut setting = Setting {
+        numbers: [0; 64],
+        count: 0,
+        words: [0; 64],
+        room: 0,
+    };
+    let out = &mut rt.stdout();
+    for row in rows[..n].split_inclusive(|b| *b == b'\n') {
+        any_row(out, row, &mut setting)?;
+    }
+    Ok(())
 }
