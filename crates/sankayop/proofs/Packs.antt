@@ -1,5 +1,5 @@
 -- Every answer of a call fits its place in the packed number, and the three can be taken apart again. Assumes nothing.
-use mathlib.Core.Path.{◌≡◌, refl, sym, ap, subst, ◌∙◌}
+use mathlib.Core.Path.{◌≡◌, refl, sym, subst}
 use mathlib.Core.Bool.{Bool, true, false, cond}
 use mathlib.Core.List.{List, [], ◌∷◌}
 use Prim.Native.Nat.{ℕ, ◌≤◌, ◌<◌}
@@ -23,24 +23,18 @@ use Rattle.bench.specs.Routes.{route_said}
 use Rattle.bench.proofs.Routes.{fill_short}
 use Rattle.table.proofs.Numbers.{Numbered}
 use Rattle.table.proofs.Ranges.{open_numbered, turn_numbered, area_numbered, route_numbered}
-use Rattle.sankayop.specs.Packed.{number, first, second, in_one, packed, Fits, Packs}
+use Rattle.sankayop.specs.Packed.{first, in_one, Fits, Packs}
 
 -- ---- nothing is lost
 
 pub parts_same : {a b c d e f : ℕ} → Fits a b c → Fits d e f → in_one a b c ≡ in_one d e f → (a ≡ d) × (b ≡ e) × (c ≡ f)
 parts_same p q e = (omega (arith, e), omega (arith, e), omega (arith, e))
 
--- ---- an answer a that is b in a branch
-
-module _ {A : Type 0} (f : A → Said) {a b : A} (e : a ≡ b) where
-  pub packs_by : Packs (f a) → Packs (f b)
-  packs_by p = subst (λ (x : A). Packs (f x)) e p
-
-  pub packed_by : {r : ℕ} → r ≡ in_one (number (f b)) (first (f b)) (second (f b)) → r ≡ packed (f a)
-  unfolding packed
-  packed_by q = q ∙ ap (λ (x : A). packed (f x)) (sym e)
-
 -- ---- the calls on a map and a bench
+
+-- what is said with other words
+pub packs_by : {s t : Said} → s ≡ t → Packs t → Packs s
+packs_by e p = subst Packs (sym e) p
 
 judged_packs : (high fault : ℕ) (answer : Said) → high < 256 → Numbered 2 high (judged fault answer) → (fault ≡ 0 → Packs answer) → Packs (judged fault answer)
 unfolding judged
@@ -71,7 +65,7 @@ module _ (map : List ℕ) (n m : ℕ) (x : List ℕ) where
   unfolding route_said
   route_packs crossing buffer =
       judged_packs 10 _ _ (omega arith) (route_numbered map n m x crossing buffer)
-      (λ z. record { few = omega arith; first_in = omega (arith, fill_short map n m x crossing buffer refl z); second_in = omega arith })
+      (λ z. record { few = omega arith; first_in = omega (arith, fill_short map n m x crossing buffer (sym z)); second_in = omega arith })
 
   turn_lent : turn_fault map n m x ≡ 0 → lent_fault map n m 0 x ≡ 0
   unfolding turn_fault

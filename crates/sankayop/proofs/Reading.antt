@@ -1,23 +1,20 @@
 -- What the reader answers fits: its numbers of refusal, its lines, n and m. Assumes nothing.
-use mathlib.Core.Path.{◌≡◌, refl, sym, subst}
+use mathlib.Core.Path.{◌≡◌, refl, ap, ◌∙◌}
 use mathlib.Core.Bool.{Bool, true, false, cond}
 use mathlib.Core.List.{List, [], ◌∷◌}
+use Rattle.std.specs.Prelude.{Result, Ok, Err}
 use Prim.Native.Nat.{ℕ, suc, ◌+◌, ◌≤◌}
 use native.Mathlib.Omega.{arith}
 use borrow.Author.Tests.{ltb-false}
 use lib.Dec.{eqb, ltb}
 use lib.ListN.{length}
-use Rattle.limits.specs.Said.{Said, refused}
+use Rattle.limits.specs.Said.{Said, told, refused}
 use Rattle.limits.proofs.Cases.{cond_both}
 use Rattle.line.specs.Line.{line_of}
 use Rattle.line.specs.Lines.{onto, lines_of}
-use Rattle.step.specs.Step.{state_of, taken, step_then}
+use Rattle.step.specs.Step.{FaultAt, state_of, taken, step_then}
 use Rattle.step.specs.declared.State.{State}
-use Rattle.step.specs.declared.Step.{Step}
-use Rattle.step.specs.declared.Step.TheVariants.{Go, Stop}
-use Rattle.text.specs.Text.{said, finish, read_lines, read_text}
-use Rattle.text.specs.declared.Reading.{Reading}
-use Rattle.text.specs.declared.Reading.TheVariants.{Read, Refused}
+use Rattle.text.specs.Text.{finish, read_lines, read_text}
 use Rattle.text.proofs.Good.{accepted_good}
 use Rattle.text.proofs.Refusals.{refused_at, refused_within}
 use Rattle.table.proofs.Reader.{read_numbered}
@@ -43,32 +40,32 @@ refused_line room s number line e = go (ltb 1048576 (length s)) refl e (refused_
     go true q e h = let z : line ≡ 0 = cc in omega arith
     go false q e h = omega (arith, ltb-false 1048576 (length s) q, lines_length s)
 
-pub reading_packs : (room : ℕ) (s : List ℕ) (r : Reading) → said r ≡ read_text room s → Packs (said r)
-reading_packs room s (Read n m) e =
-    let g = accepted_good room s (sym e) in
-    record { few = omega arith; first_in = omega (arith, g.n_in.most); second_in = omega (arith, g.m_in) }
-reading_packs room s (Refused number line) e =
-    record { few = omega (arith, (read_numbered room s number (line ∷ []) (sym e)).most); first_in = omega (arith, refused_line room s number line (sym e)); second_in = omega arith }
+-- the reader tells two values, or refuses with one
+abbrev Read : Said → Type 0
+Read (told vs) = (n : ℕ) × (m : ℕ) × (vs ≡ n ∷ m ∷ [])
+Read (refused number vs) = (line : ℕ) × (vs ≡ line ∷ [])
 
--- ---- whatever the text, the reader says what some answer says
-
-abbrev Answered : Said → Type 0
-Answered s = (r : Reading) × (said r ≡ s)
-
-lines_answered : (room : ℕ) (st : State) (at : ℕ) (ls : List (List ℕ)) → Answered (read_lines room st at ls)
+lines_read : (room : ℕ) (st : State) (at : ℕ) (ls : List (List ℕ)) → Read (read_lines room st at ls)
 unfolding read_lines finish
-lines_answered room st at [] =
-    cond_both Answered (eqb st.n 0) (Refused 1 at, refl) (cond_both Answered (eqb st.k st.m) (Read st.n st.m, refl) (Refused 1 at, refl))
-lines_answered room st at (l ∷ ls) = go (taken room st (line_of l)) (λ next. lines_answered room next (at + 1) ls)
+lines_read room st at [] = cond_both Read (eqb st.n 0) (at, refl) (cond_both Read (eqb st.k st.m) (st.n, st.m, refl) (at, refl))
+lines_read room st at (l ∷ ls) = go (taken room st (line_of l)) (λ next. lines_read room next (at + 1) ls)
   where
-    go : (x : Step) → ((next : State) → Answered (read_lines room next (at + 1) ls))
-        → Answered (step_then x (λ next. read_lines room next (at + 1) ls) (λ fault. refused fault.number (at ∷ [])))
-    go (Go next) rest = rest next
-    go (Stop fault) rest = (Refused fault.number at, refl)
+    go : (x : Result State FaultAt) → ((next : State) → Read (read_lines room next (at + 1) ls))
+        → Read (step_then x (λ next. read_lines room next (at + 1) ls) (λ fault. refused fault.number (at ∷ [])))
+    go (Ok next) rest = rest next
+    go (Err fault) rest = (at, refl)
 
-read_answered : (room : ℕ) (s : List ℕ) → Answered (read_text room s)
+text_read : (room : ℕ) (s : List ℕ) → Read (read_text room s)
 unfolding read_text
-read_answered room s = cond_both Answered (ltb 1048576 (length s)) (Refused 2 0, refl) (lines_answered room (state_of 0 0 0) 1 (lines_of s))
+text_read room s = cond_both Read (ltb 1048576 (length s)) (0, refl) (lines_read room (state_of 0 0 0) 1 (lines_of s))
 
 pub read_packs : (room : ℕ) (s : List ℕ) → Packs (read_text room s)
-read_packs room s = let (r, e) = read_answered room s in subst Packs e (reading_packs room s r e)
+read_packs room s = go (read_text room s) refl (text_read room s)
+  where
+    go : (t : Said) → read_text room s ≡ t → Read t → Packs t
+    go (told vs) e (n, m, f) =
+        let g = accepted_good room s (e ∙ ap told f) in
+        rw f (record { few = omega arith; first_in = omega (arith, g.n_in.most); second_in = omega (arith, g.m_in) })
+    go (refused number vs) e (line, f) =
+        let within = refused_line room s number line (e ∙ ap (refused number) f) in
+        rw f (record { few = omega (arith, (read_numbered room s number vs e).most); first_in = omega (arith, within); second_in = omega arith })

@@ -1,6 +1,6 @@
 -- An answer in one 64-bit number: its number of refusal, 0 for none, and its two values, of which those that it does not have are 0.
 -- Assumes nothing.
-use Rattle.std.specs.Prelude.{List, ℕ, ◌+◌, ◌*◌, ◌<◌, get_or}
+use Rattle.std.specs.Prelude.{Result, Ok, Err, List, ℕ, ◌+◌, ◌*◌, ◌<◌, get_or}
 use Rattle.limits.specs.Said.{Said, told, refused}
 
 abbrev pub number : Said → ℕ
@@ -32,3 +32,8 @@ pub record Fits (number first second : ℕ) : Type 0 where
 
 abbrev pub Packs : Said → Type 0
 Packs s = Fits (number s) (first s) (second s)
+
+-- what an answer says, by what is said of its Ok and of its Err
+abbrev pub said_either : {A E : Type 0} → (A → Said) → (E → Said) → Result A E → Said
+said_either f g (Ok a) = f a
+said_either f g (Err e) = g e
