@@ -1,30 +1,24 @@
--- Rule 1 on the words of a bench: the next crossing is one of the map's, and when the half is done. Assumes nothing.
+-- Rule 1 on the words of a bench: the next crossing, and when the half is done. Assumes nothing.
 use mathlib.Core.Path.{◌≡◌, sym, ap, ◌∙◌}
 use mathlib.Core.Bool.{Bool, true}
 use mathlib.Core.List.{List}
 use Prim.Native.Nat.{ℕ}
 use borrow.Author.Tests.{eq-eqb, ne_eqb}
 use lib.ListN.{get_or}
-use Rattle.limits.specs.Limits.{Between}
 use Rattle.map.specs.declared.Side.{Side}
 use Rattle.half.specs.Half.{dist, nearest_open}
-use Rattle.half.proofs.Rule1.{nearest_open_lem, nearest_first}
 use Rattle.shape.specs.Bench.{half, parse}
 use Rattle.shape.specs.Rules.{next, beyond, done}
 
-module _ (s : Side) (n : ℕ) (y : List ℕ) {x : ℕ} (e : x ≡ nearest_open n (half s (parse n y))) where
-  pub next_in : (x ≡ 0 → ⊥) → Between 1 n x
-  next_in z = rw e (nearest_first (nearest_open_lem n (half s (parse n y))) (λ q. z (e ∙ q))).inside
+module _ (s : Side) (n : ℕ) (y : List ℕ) {x : ℕ} (e : x ≡ nearest_open n (half s (parse n y))) (same : get_or y 0 0 ≡ n) where
+  pub next_is : next s (parse n y) ≡ x
+  unfolding parse
+  next_is = ap (λ (k : ℕ). nearest_open k (half s (parse n y))) same ∙ sym e
 
-  module _ (same : get_or y 0 0 ≡ n) where
-    pub next_is : next s (parse n y) ≡ x
-    unfolding parse
-    next_is = ap (λ (k : ℕ). nearest_open k (half s (parse n y))) same ∙ sym e
+  pub done_none : x ≡ 0 → done s (parse n y) ≡ true
+  unfolding done
+  done_none z = rw (next_is, eq-eqb x 0 z)
 
-    pub done_none : x ≡ 0 → done s (parse n y) ≡ true
-    unfolding done
-    done_none z = rw (next_is, eq-eqb x 0 z)
-
-    pub done_by : (x ≡ 0 → ⊥) → {d : ℕ} {t : Bool} → d ≡ dist (half s (parse n y)) x → t ≡ beyond (get_or y 4 0) (get_or y 5 0) d → done s (parse n y) ≡ t
-    unfolding done parse
-    done_by z p q = rw next_is (simp (ne_eqb x 0 z) (sym (q ∙ ap (beyond (get_or y 4 0) (get_or y 5 0)) p)))
+  pub done_by : (x ≡ 0 → ⊥) → {d : ℕ} {t : Bool} → d ≡ dist (half s (parse n y)) x → t ≡ beyond (get_or y 4 0) (get_or y 5 0) d → done s (parse n y) ≡ t
+  unfolding done parse
+  done_by z p q = rw next_is (simp (ne_eqb x 0 z) (sym (q ∙ ap (beyond (get_or y 4 0) (get_or y 5 0)) p)))

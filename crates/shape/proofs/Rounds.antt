@@ -17,10 +17,6 @@ pub record Room (n : ℕ) (b : Bench) : Type 0 where
 pub shaped_room : {n m : ℕ} {b : Bench} → WellShaped n m b → Room n b
 shaped_room w = record { halves = λ s. (w.halves s).room; marks = w.marks_room }
 
-pub half_fits : (s : Side) (n : ℕ) → half_at s n + 3 * n ≤ marks_at n
-half_fits Forward n = omega arith
-half_fits Backward n = omega arith
-
 -- what a function is lent of the words
 module _ (n : ℕ) (x : List ℕ) {a : ℕ} where
   pub half_part : (s : Side) → a ≡ half_at s n → take (a + 3 * n - a) (drop a x) ≡ half s (parse n x)

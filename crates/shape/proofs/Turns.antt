@@ -44,7 +44,7 @@ next_first s b e =
 
 -- ---- the other half
 
-pub settled_by_half : (s : Side) (map : List ℕ) (x : ℕ) (b : Bench) → half s (settled_by s map x b) ≡ settled_at s map b.n b.m x (half s b)
+settled_by_half : (s : Side) (map : List ℕ) (x : ℕ) (b : Bench) → half s (settled_by s map x b) ≡ settled_at s map b.n b.m x (half s b)
 settled_by_half Forward map x b = refl
 settled_by_half Backward map x b = refl
 
