@@ -14,8 +14,9 @@ use Rattle.text.specs.contracts.begin as beginning
 use Rattle.text.specs.contracts.line_here as telling
 use Rattle.text.specs.contracts.past_line as passing
 use Rattle.text.specs.contracts.read_on as reading-on
-use Rattle.map.proofs.fault.Reads as judging
+use Rattle.map.proofs.check.Reads as judging
 use Rattle.bench.proofs.open_bench.Reads as opening
+use Rattle.bench.proofs.take_turn.Reads as taking
 use Rattle.bench.proofs.forward.Reads as going
 use Rattle.bench.proofs.backward.Reads as coming
 use Rattle.bench.proofs.area.Reads as masking
@@ -29,6 +30,7 @@ use Rattle.sankayop.proofs.sankayop_backward.Reads as c-coming
 use Rattle.sankayop.proofs.sankayop_area.Reads as c-masking
 use Rattle.sankayop.proofs.sankayop_route.Reads as c-filling
 use Rattle.claims.proofs.mixture.Reads as mixing
+use Rattle.limits.specs.Refusals.{fault_of}
 use Rattle.map.specs.Map.{map_fault}
 use Rattle.area.specs.Finished.{route_fault}
 use mathlib.Core.Path.{◌≡◌, refl}
@@ -37,14 +39,18 @@ use Rattle.claims.specs.Promises.{Read, Begin, TellLine, PassLine, ReadOn, Open,
 pub read_contract : (κs : _) (a : _) → reading.Pre κs a × ((r : _) (e : _) → reading.Post κs a r e → Read a.0.now a.1.0.now r e.1.0.now)
 read_contract κs a = (tt, λ r e p. p)
 
-pub fault_contract : (κs : _) (a : _) → judging.Pre κs a × ((r : _) (e : _) → judging.Post κs a r e → r ≡ map_fault a.1.0 a.1.1.0 a.0.now)
-fault_contract κs a = (tt, λ r e p. p)
+pub check_contract : (κs : _) (a : _) → judging.Pre κs a × ((r : _) (e : _) → judging.Post κs a r e → fault_of r ≡ map_fault a.1.0 a.1.1.0 a.0.now)
+check_contract κs a = (tt, λ r e p. p)
 
 pub open_contract : (κs : _) (a : _)
     → opening.Pre κs a
     × ((r : _) (e : _) → opening.Post κs a r e
     → Open a.0.now a.1.0 a.1.1.0 a.1.1.1.0 a.1.1.1.1.0 a.1.1.1.1.1.0 a.1.1.1.1.1.1.0.now r e.1.1.1.1.1.1.0.now)
 open_contract κs a = (tt, λ r e p. p)
+
+pub turn_contract : (κs : _) (a : _)
+    → taking.Pre κs a × ((r : _) (e : _) → taking.Post κs a r e → TakeTurn a.1.1.1.0 a.0.now a.1.0 a.1.1.0 a.1.1.1.1.0.now r e.1.1.1.1.0.now)
+turn_contract κs a = (tt, λ r e p. p)
 
 pub forward_contract : (κs : _) (a : _)
     → going.Pre κs a × ((r : _) (e : _) → going.Post κs a r e → TakeTurn Forward a.0.now a.1.0 a.1.1.0 a.1.1.1.0.now r e.1.1.1.0.now)
@@ -75,7 +81,7 @@ route_contract κs a = (tt, λ r e p. p)
 pub refusal_contract : (κs : _) (a : _)
     → asking.Pre κs a
     × ((r : _) (e : _) → asking.Post κs a r e
-    → r ≡ route_fault a.0.now a.1.0 a.1.1.0 a.1.1.1.0.now a.1.1.1.1.0 (length a.1.1.1.1.1.0.now))
+    → fault_of r ≡ route_fault a.0.now a.1.0 a.1.1.0 a.1.1.1.0.now a.1.1.1.1.0 (length a.1.1.1.1.1.0.now))
 refusal_contract κs a = (tt, λ r e p. p)
 
 pub mixture_contract : (κs : _) (a : _)

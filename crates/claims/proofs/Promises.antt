@@ -5,15 +5,19 @@ use mathlib.Core.List.{List, []}
 use Prim.Native.Nat.{ℕ, ◌≤◌}
 use native.Mathlib.Omega.{arith}
 use lib.ListN.{length, drop}
+use Rattle.std.specs.Prelude.{Result, Ok, Err}
 use Rattle.limits.specs.Limits.{Between}
+use Rattle.limits.specs.Refusals.{fault_of}
+use Rattle.limits.specs.declared.Refusal.{Refusal}
+use Rattle.limits.proofs.Refused.{number_not_zero}
 use Rattle.limits.specs.Said.{Said, told, refused, unless_refused}
 use Rattle.text.specs.Text.{said, map_after}
 use Rattle.text.proofs.Refusals.{said_same}
 use Rattle.bench.specs.Calls.{said_opening, open_words, said_turn, turn_words}
 use Rattle.bench.specs.Areas.{said_filling, area_mask}
 use Rattle.bench.specs.Routes.{said_routing, route_buffer}
-use Rattle.bench.proofs.Answers.{opening_same, turn_same, filling_same}
-use Rattle.bench.proofs.Routes.{routing_same, part_refused, part_some}
+use Rattle.bench.proofs.Answers.{opening_same, turn_same, filling_same, routing_same}
+use Rattle.bench.proofs.Routes.{part_refused, part_some}
 use Rattle.table.proofs.Numbers.{Numbered}
 use Rattle.table.proofs.Reader.{read_numbered}
 use Rattle.table.proofs.Ranges.{map_in, route_in_lem, open_numbered, turn_numbered, area_numbered, route_numbered}
@@ -35,8 +39,16 @@ kept say alike low high s numbers filled lent =
       same = λ a b x y p q. (alike a b (p.0 ∙ sym q.0), p.1 ∙ sym q.1);
     }
 
-answered : (low high fault : ℕ) → (fault ≢ 0 → Between low high fault) → Answered low high (λ r. r ≡ fault)
-answered low high fault b = record { numbered = λ r e ne. rw e (b (λ z. ne (e ∙ z))); same = λ r q e f. e ∙ sym f }
+-- two answers with the same number, 0 for none, are the same
+fault_same : (a b : Result (Unit {0}) Refusal) → fault_of a ≡ fault_of b → a ≡ b
+fault_same (Ok _) (Ok _) e = refl
+fault_same (Ok _) (Err q) e = absurd (number_not_zero q (sym e))
+fault_same (Err r) (Ok _) e = absurd (number_not_zero r e)
+fault_same (Err r) (Err q) e = opening_same (Err r) (Err q) (ap (λ (k : ℕ). refused k []) e)
+
+answered : (low high fault : ℕ) → (fault ≢ 0 → Between low high fault) → Answered low high (λ r. fault_of r ≡ fault)
+answered low high fault b =
+    record { numbered = λ r e ne. rw e (b (λ z. ne (e ∙ z))); same = λ r q e f. fault_same r q (e ∙ sym f) }
 
 told_same : {A : Type 0} (answer : A) → Told (λ r. r ≡ answer)
 told_same answer = record { same = λ a b e f. e ∙ sym f }
@@ -73,7 +85,7 @@ promises =
       line_here = λ reader. told_same _;
       past_line = λ reader. told_same _;
       read_on = λ reader map. kept said said_same 1 5 _ (read_numbered (length map) (drop reader.at reader.text.now)) _ map;
-      fault = λ map n m. answered 2 5 _ (map_in map n m);
+      check = λ map n m. answered 2 5 _ (map_in map n m);
       open_bench = λ map n m start target stretch x.
           kept said_opening opening_same 2 5 _ (open_numbered map n m x start target stretch) _ x;
       turn = λ s map n m x. kept said_turn turn_same 2 6 _ (turn_numbered map n m x s) _ x;

@@ -3,66 +3,67 @@
 -- anything we lent." That no call indexes out of range, wraps or runs on is checked of every function; as no public call has a `requires`, it holds
 -- whoever calls. A promise here is what the contract of a call ensures, for all inputs, of its answer and of what was lent to be written.
 -- Assumes nothing.
-use Rattle.std.specs.Prelude.{◌≡◌, ◌≢◌, ◌↔◌, List, [], ℕ, length, drop}
+use Rattle.std.specs.Prelude.{◌≡◌, ◌≢◌, ◌↔◌, List, [], ℕ, Result, length, drop}
 use Rattle.std.specs.Borrow.{Bor}
 use Rattle.limits.specs.Limits.{Between}
+use Rattle.limits.specs.Refusals.{fault_of}
 use Rattle.limits.specs.Said.{Said, refused}
+use Rattle.limits.specs.declared.Refusal.{Refusal}
 use Rattle.line.specs.Lines.{line_end}
 use Rattle.line.specs.declared.Line.{Line}
+use Rattle.line.specs.declared.NoLine.{NoLine}
 use Rattle.text.specs.Held.{reader_at, line_at}
 use Rattle.text.specs.Text.{said, read_text, map_after}
 use Rattle.text.specs.declared.Reader.{Reader}
-use Rattle.text.specs.declared.Reading.{Reading}
+use Rattle.text.specs.declared.Refused.{Refused}
+use Rattle.text.specs.declared.Size.{Size}
 use Rattle.map.specs.Map.{map_fault}
 use Rattle.map.specs.declared.Side.{Side}
 use Rattle.area.specs.Finished.{route_fault}
 use Rattle.bench.specs.Calls.{said_opening, open_said, open_words, said_turn, turn_said, turn_words}
 use Rattle.bench.specs.Areas.{said_filling, area_said, area_mask}
 use Rattle.bench.specs.Routes.{said_routing, route_said, route_part, route_buffer}
-use Rattle.bench.specs.declared.Filling.{Filling}
-use Rattle.bench.specs.declared.Opening.{Opening}
-use Rattle.bench.specs.declared.Routing.{Routing}
 use Rattle.bench.specs.declared.Turn.{Turn}
 use Rattle.sankayop.specs.Packed.{in_one, packed, Fits}
 use Rattle.demands.specs.Calls.{mixture_words}
 
 -- ---- the promises, as the contracts state them
 
-abbrev pub Read : List ℕ → List ℕ → Reading → List ℕ → Type 0
+abbrev pub Read : List ℕ → List ℕ → Result Size Refused → List ℕ → Type 0
 Read text map r after = (said r ≡ read_text (length map) text) × (after ≡ map_after text map)
 
 -- a reader at the beginning of a lent text, the line at a reader's place, and the reader past that line
 abbrev pub Begin : Bor (List ℕ) → Reader → Type 0
 Begin text r = r ≡ reader_at text 0
 
-abbrev pub TellLine : Reader → Line → Type 0
+abbrev pub TellLine : Reader → Result Line NoLine → Type 0
 TellLine reader r = r ≡ line_at reader.text.now reader.at
 
 abbrev pub PassLine : Reader → Reader → Type 0
 PassLine reader r = r ≡ reader_at reader.text (line_end reader.text.now reader.at)
 
 -- a reader reads what is left of its text
-abbrev pub ReadOn : Reader → List ℕ → Reading → List ℕ → Type 0
+abbrev pub ReadOn : Reader → List ℕ → Result Size Refused → List ℕ → Type 0
 ReadOn reader = Read (drop reader.at reader.text.now)
 
-abbrev pub Open : List ℕ → ℕ → ℕ → ℕ → ℕ → ℕ → List ℕ → Opening → List ℕ → Type 0
+abbrev pub Open : List ℕ → ℕ → ℕ → ℕ → ℕ → ℕ → List ℕ → Result (Unit {0}) Refusal → List ℕ → Type 0
 Open map n m start target stretch x r after =
     (said_opening r ≡ open_said map n m start target stretch x) × (after ≡ open_words map n m start target stretch x)
 
-abbrev pub TakeTurn : Side → List ℕ → ℕ → ℕ → List ℕ → Turn → List ℕ → Type 0
+abbrev pub TakeTurn : Side → List ℕ → ℕ → ℕ → List ℕ → Result Turn Refusal → List ℕ → Type 0
 TakeTurn s map n m x r after = (said_turn r ≡ turn_said s map n m x) × (after ≡ turn_words s map n m x)
 
-abbrev pub FillMask : List ℕ → ℕ → ℕ → List ℕ → ℕ → List ℕ → Filling → List ℕ → Type 0
+abbrev pub FillMask : List ℕ → ℕ → ℕ → List ℕ → ℕ → List ℕ → Result (Unit {0}) Refusal → List ℕ → Type 0
 FillMask map n m x locality mask r after = (said_filling r ≡ area_said map n m x locality mask) × (after ≡ area_mask map n m x locality mask)
 
-abbrev pub FillRoute : List ℕ → ℕ → ℕ → List ℕ → ℕ → List ℕ → Routing → List ℕ → Type 0
+abbrev pub FillRoute : List ℕ → ℕ → ℕ → List ℕ → ℕ → List ℕ → Result ℕ Refusal → List ℕ → Type 0
 FillRoute map n m x crossing buffer r after = (said_routing r ≡ route_said map n m x crossing buffer) × (after ≡ route_buffer map n m x crossing buffer)
 
 -- the part handed back, and its place
 abbrev pub HandRoute : {Place : Type 0} → List ℕ → ℕ → ℕ → List ℕ → ℕ → List ℕ → Place → List ℕ → Place → Type 0
 HandRoute map n m x crossing buffer lent part place = (part ≡ route_part map n m x crossing buffer) × (place ≡ lent)
 
-abbrev pub Mix : List ℕ → ℕ → ℕ → ℕ → ℕ → ℕ → List ℕ → List ℕ → Opening → List ℕ → Type 0
+abbrev pub Mix : List ℕ → ℕ → ℕ → ℕ → ℕ → ℕ → List ℕ → List ℕ → Result (Unit {0}) Refusal → List ℕ → Type 0
 Mix map n m start target stretch schedule x r after =
     (said_opening r ≡ open_said map n m start target stretch x) × (after ≡ mixture_words map n m start target stretch schedule x)
 
@@ -100,10 +101,10 @@ pub record KeptPacked (low high : ℕ) (lent : List ℕ) (P : ℕ → List ℕ �
   pub stays : (r : ℕ) (after : List ℕ) → P r after → (number first second : ℕ) → Fits number first second → r ≡ in_one number first second → number ≢ 0 → after ≡ lent
   pub same : (r q : ℕ) (x y : List ℕ) → P r x → P q y → (r ≡ q) × (x ≡ y)
 
--- of a call that answers a number of refusal, 0 for none, and writes nothing
-pub record Answered (low high : ℕ) (P : ℕ → Type 0) : Type 0 where
-  pub numbered : (r : ℕ) → P r → r ≢ 0 → Between low high r
-  pub same : (r q : ℕ) → P r → P q → r ≡ q
+-- of a call that answers whether there is a refusal, and writes nothing
+pub record Answered (low high : ℕ) (P : Result (Unit {0}) Refusal → Type 0) : Type 0 where
+  pub numbered : (r : Result (Unit {0}) Refusal) → P r → fault_of r ≢ 0 → Between low high (fault_of r)
+  pub same : (r q : Result (Unit {0}) Refusal) → P r → P q → r ≡ q
 
 -- of a call that is not refused and writes nothing
 pub record Told {A : Type 0} (P : A → Type 0) : Type 0 where
@@ -118,11 +119,11 @@ pub record Promises (Place : Type 0) : Type 0 where
   pub line_here : (reader : Reader) → Told (TellLine reader)
   pub past_line : (reader : Reader) → Told (PassLine reader)
   pub read_on : (reader : Reader) (map : List ℕ) → Kept said 1 5 map (ReadOn reader map)
-  -- map::fault
-  pub fault : (map : List ℕ) (n m : ℕ) → Answered 2 5 (λ r. r ≡ map_fault n m map)
+  -- map::check
+  pub check : (map : List ℕ) (n m : ℕ) → Answered 2 5 (λ r. fault_of r ≡ map_fault n m map)
   -- bench::open_bench, lent the bench x
   pub open_bench : (map : List ℕ) (n m start target stretch : ℕ) (x : List ℕ) → Kept said_opening 2 5 x (Open map n m start target stretch x)
-  -- bench::forward and bench::backward, lent the bench x
+  -- bench::take_turn, bench::forward and bench::backward, lent the bench x
   pub turn : (s : Side) (map : List ℕ) (n m : ℕ) (x : List ℕ) → Kept said_turn 2 6 x (TakeTurn s map n m x)
   -- bench::area, lent the mask
   pub area : (map : List ℕ) (n m : ℕ) (x : List ℕ) (locality : ℕ) (mask : List ℕ) → Kept said_filling 2 9 mask (FillMask map n m x locality mask)
@@ -130,7 +131,7 @@ pub record Promises (Place : Type 0) : Type 0 where
   pub fill_route : (map : List ℕ) (n m : ℕ) (x : List ℕ) (crossing : ℕ) (buffer : List ℕ) → Kept said_routing 2 10 buffer (FillRoute map n m x crossing buffer)
   -- bench::route_refusal
   pub route_refusal : (map : List ℕ) (n m : ℕ) (x : List ℕ) (crossing : ℕ) (buffer : List ℕ)
-      → Answered 2 10 (λ r. r ≡ route_fault map n m x crossing (length buffer))
+      → Answered 2 10 (λ r. fault_of r ≡ route_fault map n m x crossing (length buffer))
   -- bench::route, whose part has no words exactly on a refusal; of the buffer past it docs/TIGHT.md speaks
   pub route_same : (map : List ℕ) (n m : ℕ) (x : List ℕ) (crossing : ℕ) (buffer : List ℕ) (lent : Place)
       (p q : List ℕ) (i j : Place) → HandRoute map n m x crossing buffer lent p i → HandRoute map n m x crossing buffer lent q j → (p ≡ q) × (i ≡ j)
