@@ -1,10 +1,5 @@
 -- What the calls say where they refuse and where they do not, and what opening and a turn have then. Assumes nothing.
-use mathlib.Core.Path.{◌≡◌, refl, sym, ◌∙◌, ap}
-use mathlib.Core.Bool.{Bool, true, false}
-use mathlib.Core.List.{List, [], ◌∷◌}
-use Prim.Native.Nat.{ℕ, ◌≤◌}
-use native.Mathlib.Omega.{arith}
-use lib.ListN.{length}
+use Rattle.std.proofs.Common.{◌≡◌, ℕ, ◌≤◌, Bool, true, false, List, [], ◌∷◌, length, refl, sym, ap, ◌∙◌, arith}
 use borrow.Author.Tests.{eq-eqb, ne_eqb}
 use Rattle.limits.specs.Limits.{Between}
 use Rattle.limits.specs.Refusals.{number_of}
@@ -53,6 +48,9 @@ module _ (fault : ℕ) where
   pub passed_writes : (values x y z : List ℕ) → 0 ≡ fault → z ≡ y → z ≡ unless_refused (judged fault (told values)) y x
   unfolding judged
   passed_writes values x y z e f = rw (← e) f
+
+-- for the answers of a call
+pub ruleset answers = (refused_says, refused_keeps, passed_says, passed_writes)
 
 -- ---- opening
 

@@ -53,7 +53,7 @@ fn check_open(
 }
 
 // Opens the bench for one order.
-#[tactic(auto, using(crate::proofs::Laws::refused_says, crate::proofs::Laws::refused_keeps, crate::proofs::Laws::passed_says, crate::proofs::Laws::passed_writes), unfolding(crate::specs::Calls::open_said, crate::specs::Calls::open_words))]
+#[tactic(auto, using(crate::proofs::Laws::answers), unfolding(crate::specs::Calls::open_said, crate::specs::Calls::open_words))]
 pub fn open_bench(
     map: &[u32],
     n: u32,
@@ -88,7 +88,7 @@ fn next(lent: &Shaped, side: Side) -> Option<usize>
 }
 
 // One turn of the half of a side.
-#[tactic(auto, using(crate::proofs::Laws::refused_says, crate::proofs::Laws::refused_keeps, crate::proofs::Laws::passed_says, crate::proofs::Laws::passed_writes), unfolding(crate::specs::Calls::turn_said, crate::specs::Calls::turn_words, crate::specs::Calls::turn_fault))]
+#[tactic(auto, using(crate::proofs::Laws::answers), unfolding(crate::specs::Calls::turn_said, crate::specs::Calls::turn_words, crate::specs::Calls::turn_fault))]
 pub fn take_turn(
     map: &[u32],
     n: u32,
@@ -104,6 +104,7 @@ pub fn take_turn(
         return Ok(Turn::Done);
     };
     let d = lent.bench.half(side).entry(x).dist;
+    // the roads alone: the bench is lent on to be written
     let roads = lent.roads;
     writing::take(&roads, side, x, d, bench);
     Ok(Turn::Settled(x as u32, d))
@@ -128,7 +129,7 @@ pub fn backward(map: &[u32], n: u32, m: u32, bench: &mut [u32]) -> Result<Turn, 
 // ---- area
 
 // Fills the first n bytes of the mask: 0 unmarked, 1 in B only, 2 also in BL.
-#[tactic(auto, using(crate::proofs::Laws::refused_says, crate::proofs::Laws::refused_keeps, crate::proofs::Laws::passed_says, crate::proofs::Laws::passed_writes), unfolding(crate::specs::Areas::area_said, crate::specs::Areas::area_mask))]
+#[tactic(auto, using(crate::proofs::Laws::answers), unfolding(crate::specs::Areas::area_said, crate::specs::Areas::area_mask))]
 pub fn area(
     map: &[u32],
     n: u32,
@@ -148,7 +149,7 @@ pub fn area(
 // ---- route
 
 // Fills the buffer with the route through a marked crossing; answers its length.
-#[tactic(auto, using(crate::proofs::Laws::refused_says, crate::proofs::Laws::refused_keeps, crate::proofs::Laws::passed_says, crate::proofs::Laws::passed_writes), unfolding(crate::specs::Routes::route_said, crate::specs::Routes::route_buffer))]
+#[tactic(auto, using(crate::proofs::Laws::answers), unfolding(crate::specs::Routes::route_said, crate::specs::Routes::route_buffer))]
 pub fn fill_route(
     map: &[u32],
     n: u32,
@@ -180,7 +181,8 @@ pub fn route_refusal(
     Ok(())
 }
 
-// Hands back the filled part of the buffer; no words on a refusal.
+// Hands back the filled part of the buffer; no words on a refusal. What the buffer ends as is not said: the check proves the word for that,
+// `Lends`, of a whole field, an element or a call's result, and of no part of a slice.
 pub fn route<'a>(
     map: &[u32],
     n: u32,
