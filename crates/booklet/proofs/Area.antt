@@ -5,40 +5,31 @@ use Prim.Native.Nat.{ℕ, zero, suc, ◌+◌, ◌*◌, min}
 use native.Mathlib.Omega.{arith}
 use borrow.Author.Tests.{ne_eqb}
 use lib.ListN.{length, drop}
+use Rattle.std.specs.Prelude.{Result, Ok, Err, IfOk, OnOk}
+use Rattle.limits.specs.Refusals.{number_of, fault_of}
+use Rattle.limits.proofs.Refused.{number_not_zero}
+use Rattle.limits.specs.declared.Refusal.{Refusal}
 use Rattle.limits.specs.Said.{Said, told, refused}
 use Rattle.limits.proofs.Laws.{or_else_first, or_else_second}
 use Rattle.map.specs.Walk.{other}
 use Rattle.map.specs.declared.Side.{Side}
 use Rattle.map.specs.declared.Side.TheVariants.{Forward, Backward}
 use Rattle.text.specs.Text.{read_text, map_after}
+use Rattle.text.specs.declared.Refused.{Refused}
 use Rattle.shape.specs.Bench.{bench_words}
-use Rattle.shaped.proofs.Shaped.{opened_shaped}
+use Rattle.shaped.proofs.Shapes.{opened_shaped}
 use Rattle.area.specs.Finished.{area_fault}
 use Rattle.area.proofs.Areas.{area_filled}
-use Rattle.bench.specs.Calls.{said_opening, open_said, open_words, turn_fault, turn_words}
-use Rattle.bench.specs.Areas.{said_filling, area_said, area_mask}
-use Rattle.bench.specs.declared.Opening.{Opening}
-use Rattle.bench.specs.declared.Opening.TheVariants as openings
-use Rattle.bench.specs.declared.Filling.{Filling}
-use Rattle.bench.specs.declared.Filling.TheVariants as fillings
+use Rattle.bench.specs.Calls.{open_said, open_words, turn_fault, turn_words}
+use Rattle.bench.specs.Areas.{area_said, area_mask}
 use Rattle.demands.specs.Mixture as mixture
 use Rattle.demands.specs.Mixture.{turns_in, turns_of}
 use Rattle.demands.specs.Calls.{sides_of, turns_words, mixture_words}
 use Rattle.demands.proofs.Calls.{opened_order, turn_fine, mixture_goes}
 use Rattle.demands.proofs.Turns.{turns_low}
-use Rattle.booklet.specs.Survey.{opening_number, filling_number, alternate, alternated, finished_words, area_number, finished_mask, area_told, said, survey_said, survey_bench, survey_mask, Holds}
+use Rattle.booklet.specs.Survey.{alternate, alternated, finished_words, area_number, finished_mask, area_told, said, survey_said, survey_bench, survey_mask, HasRoom}
 use Rattle.booklet.specs.declared.Order.{Order}
-use Rattle.booklet.specs.declared.Outcome.{Outcome}
-use Rattle.booklet.specs.declared.Outcome.TheVariants.{Area, Refused}
 use Rattle.booklet.proofs.Turns.{judged_fine, judged_number}
-
--- ---- the number of an answer that is a refusal
-
-pub opening_number_lem : (t : Opening) {said : Said} {k number : ℕ} → said_opening t ≡ said → t ≡ openings.Refused k → number ≡ opening_number t → refused number [] ≡ said
-opening_number_lem t e q f = rw (f ∙ ap opening_number q) (ap said_opening (sym q) ∙ e)
-
-pub filling_number_lem : (t : Filling) {said : Said} {k number : ℕ} → said_filling t ≡ said → t ≡ fillings.Refused k → number ≡ filling_number t → refused number [] ≡ said
-filling_number_lem t e q f = rw (f ∙ ap filling_number q) (ap said_filling (sym q) ∙ e)
 
 -- ---- turns taken alternately are a mixture, in which each half takes n + 1
 
@@ -68,17 +59,19 @@ module _ (map : List ℕ) (n m : ℕ) (order : Order) (x : List ℕ) where
   after = open_words map n m order.start order.target order.stretch x
 
   -- the answer, the bench and the mask are as promised
-  abbrev pub Found : List ℕ → Outcome → List ℕ → List ℕ → Type 0
-  Found mask r y w =
-      (said r ≡ area_told n (area_number map n m order x mask)) × ((y ≡ finished_words map n m order x) × ((w ≡ finished_mask map n m order x mask) × Holds r y w))
+  pub record Found (mask₀ : List ℕ) (r : Result (Unit {0}) Refusal) (y w : List ℕ) : Type 0 where
+    pub answer : fault_of r ≡ area_number map n m order x mask₀
+    pub bench : y ≡ finished_words map n m order x
+    pub mask : w ≡ finished_mask map n m order x mask₀
+    pub room : OnOk r (HasRoom n y w)
 
   -- ---- refused at opening
 
-  pub opening_refused : {k : ℕ} → refused k [] ≡ opening → {y : List ℕ} → y ≡ after → {r : Outcome} → r ≡ Refused k 0 → (mask : List ℕ) → Found mask r y mask
-  unfolding finished_words finished_mask open_words area_told area_number open_said
-  opening_refused e p q mask =
+  pub opening_refused : {r : Refusal} → refused (number_of r) [] ≡ opening → {y : List ℕ} → y ≡ after → (mask : List ℕ) → Found mask (Err r) y mask
+  unfolding finished_words finished_mask open_words area_number open_said
+  opening_refused e p mask =
       let (f, z) = judged_number [] e in
-      rw q (rw (or_else_first _ _ z, ne_eqb _ 0 z, f), (p ∙ rw (← e), (rw (← e), tt)))
+      record { answer = rw (or_else_first _ _ z, f); bench = p ∙ rw (← e); mask = rw (← e); room = tt }
 
   -- ---- opened
 
@@ -116,34 +109,55 @@ module _ (map : List ℕ) (n m : ℕ) (order : Order) (x : List ℕ) where
       unfolding finished_mask
       filled q = rw (← e, ← p) q
 
-      pub area_refused : {k : ℕ} → refused k [] ≡ area_said map n m z order.locality mask → {w : List ℕ} → w ≡ area_mask map n m z order.locality mask
-          → {r : Outcome} → r ≡ Refused k 0 → Found mask r z w
-      unfolding area_said area_told
-      area_refused a b q =
-          let (f, g) = judged_number [] a in
-          rw q (rw (told_number (sym f), ne_eqb _ 0 (λ h. g (f ∙ h))), (p, (filled b, tt)))
+      pub area_refused : {r : Refusal} → refused (number_of r) [] ≡ area_said map n m z order.locality mask → {w : List ℕ} → w ≡ area_mask map n m z order.locality mask
+          → Found mask (Err r) z w
+      unfolding area_said
+      area_refused a b =
+          record { answer = sym (told_number (sym (judged_number [] a).0)); bench = p; mask = filled b; room = tt }
 
       pub area_found : told [] ≡ area_said map n m z order.locality mask → {w : List ℕ} → w ≡ area_mask map n m z order.locality mask → length w ≡ length mask
-          → Found mask (Area n) z w
-      unfolding area_said area_told
+          → Found mask (Ok tt) z w
+      unfolding area_said
       area_found a b same =
           let f = (judged_fine a).0 in
           let g = area_filled map n m z order.locality (length mask) f in
-          (rw (told_number (sym f)), (p, (filled b, (g.ready.valid.n_in.most, g.ready.room, omega (arith, g.fits)))))
+          record { answer = sym (told_number (sym f)); bench = p; mask = filled b; room = (g.ready.valid.n_in.most, g.ready.room, omega (arith, g.fits)) }
 
 -- ---- the whole survey
 
-module _ (text map : List ℕ) (order : Order) (x mask : List ℕ) where
+module _ (text map₀ : List ℕ) (order : Order) (x mask₀ : List ℕ) where
   -- the answer, the map, the bench and the mask are as promised
-  abbrev pub Surveyed : Outcome → List ℕ → List ℕ → List ℕ → Type 0
-  Surveyed r l y w =
-      (said r ≡ survey_said text map order x mask) × ((l ≡ map_after text map) × ((y ≡ survey_bench text map order x mask) × ((w ≡ survey_mask text map order x mask) × Holds r y w)))
+  pub record Surveyed (r : Result ℕ Refused) (l y w : List ℕ) : Type 0 where
+    pub answer : said r ≡ survey_said text map₀ order x mask₀
+    pub map : l ≡ map_after text map₀
+    pub bench : y ≡ survey_bench text map₀ order x mask₀
+    pub mask : w ≡ survey_mask text map₀ order x mask₀
+    pub room : IfOk r (λ n. HasRoom n y w)
 
-  module _ {l : List ℕ} (p : l ≡ map_after text map) (r : Outcome) where
-    pub reading_refused : {k at : ℕ} → refused k (at ∷ []) ≡ read_text (length map) text → r ≡ Refused k at → Surveyed r l x mask
+  module _ {l : List ℕ} (p : l ≡ map_after text map₀) where
+    pub reading_refused : (r : Refused) → said (Err r) ≡ read_text (length map₀) text → Surveyed (Err r) l x mask₀
     unfolding survey_said survey_bench survey_mask
-    reading_refused e q = rw q (rw (← e), (p, (rw (← e), (rw (← e), tt))))
+    reading_refused r e = record { answer = rw (← e); map = p; bench = rw (← e); mask = rw (← e); room = tt }
 
-    pub reading_goes : {n m : ℕ} → told (n ∷ m ∷ []) ≡ read_text (length map) text → {y w : List ℕ} → Found l n m order x mask r y w → Surveyed r l y w
-    unfolding survey_said survey_bench survey_mask
-    reading_goes e f = (rw (← e, ← p) f.0, (p, (rw (← e, ← p) f.1.0, (rw (← e, ← p) f.1.1.0, f.1.1.1))))
+    module _ {n m : ℕ} (e : told (n ∷ m ∷ []) ≡ read_text (length map₀) text) {y w : List ℕ} where
+      pub area_missing : (r : Refusal) → Found l n m order x mask₀ (Err r) y w → Surveyed (Err (record { refusal = r; line = 0 })) l y w
+      unfolding survey_said survey_bench survey_mask area_told
+      area_missing r f =
+          record {
+            answer = rw (← e, ← p, ← f.answer, ne_eqb _ 0 (number_not_zero r));
+            map = p;
+            bench = rw (← e, ← p) f.bench;
+            mask = rw (← e, ← p) f.mask;
+            room = tt;
+          }
+
+      pub area_there : Found l n m order x mask₀ (Ok tt) y w → Surveyed (Ok n) l y w
+      unfolding survey_said survey_bench survey_mask area_told
+      area_there f =
+          record {
+            answer = rw (← e, ← p, ← f.answer);
+            map = p;
+            bench = rw (← e, ← p) f.bench;
+            mask = rw (← e, ← p) f.mask;
+            room = f.room;
+          }

@@ -8,6 +8,10 @@ use native.Mathlib.Decide.{ℕ_discrete}
 use native.Mathlib.Omega.{arith}
 use borrow.Author.Tests.{eqb-true, eqb-false}
 use lib.Dec.{eqb}
+use Rattle.std.specs.Prelude.{Result, Ok, Err}
+use Rattle.limits.specs.Refusals.{number_of, fault_of}
+use Rattle.limits.proofs.Refused.{number_not_zero}
+use Rattle.limits.specs.declared.Refusal.{Refusal}
 use Rattle.limits.specs.Said.{Said, told, refused}
 use Rattle.limits.proofs.Said.{told_refused, refused_told}
 use Rattle.limits.proofs.Cases.{cond_then, cond_else}
@@ -22,9 +26,9 @@ use Rattle.shaped.proofs.Lent.{Ready, lent_ready}
 use Rattle.bench.specs.Calls.{judged, said_turn, turn_fault, turn_said, turn_words}
 use Rattle.bench.proofs.Laws.{turn_refused, turn_goes}
 use Rattle.bench.specs.declared.Turn.{Turn}
-use Rattle.bench.specs.declared.Turn.TheVariants.{Settled, Done, Refused}
+use Rattle.bench.specs.declared.Turn.TheVariants.{Settled, Done}
 use Rattle.demands.proofs.Calls.{turn_fine}
-use Rattle.booklet.specs.Survey.{turn_number, alternate, alternated}
+use Rattle.booklet.specs.Survey.{alternate, alternated}
 
 -- ---- what an answer says of its number of refusal
 
@@ -43,11 +47,11 @@ not_nothing : {v : ℕ} {vs : List ℕ} → v ∷ vs ≡ [] → ⊥
 not_nothing e = let z : ◌≡◌ {A = ℕ} 0 1 = cc in omega arith
 
 module _ (map : List ℕ) (n m : ℕ) (s : Side) (x : List ℕ) where
-  turn_number_lem : (t : Turn) → said_turn t ≡ turn_said s map n m x → turn_number t ≡ turn_fault map n m x
+  turn_number : (t : Result Turn Refusal) → said_turn t ≡ turn_said s map n m x → fault_of t ≡ turn_fault map n m x
   unfolding turn_said turn_told
-  turn_number_lem (Settled v d) e = sym (judged_fine e).0
-  turn_number_lem Done e = sym (judged_fine e).0
-  turn_number_lem (Refused r) e = sym (judged_number _ e).0
+  turn_number (Ok (Settled v d)) e = sym (judged_fine e).0
+  turn_number (Ok Done) e = sym (judged_fine e).0
+  turn_number (Err r) e = sym (judged_number _ e).0
 
   -- what a turn has that is not refused, and what it leaves
   ready : turn_fault map n m x ≡ 0 → Ready map n m x
@@ -79,11 +83,9 @@ module _ (map : List ℕ) (n m : ℕ) (s : Side) (x : List ℕ) where
       go (no z) = ap (turn_fault map n m) (refused_stays z)
 
   -- neither settled nor refused: the half is done
-  idle_stays : (t : Turn) → said_turn t ≡ turn_said s map n m x → ((v d : ℕ) → t ≡ Settled v d → ⊥) → turn_number t ≡ 0 → turn_words s map n m x ≡ x
-  unfolding turn_said turn_told
-  idle_stays (Settled v d) e f z = absurd (f v d refl)
-  idle_stays Done e f z = done_stays e
-  idle_stays (Refused r) e f z = let (a, b) = judged_number _ e in absurd (b (a ∙ z))
+  idle_stays : (t : Turn) → said_turn (Ok t) ≡ turn_said s map n m x → ((v d : ℕ) → t ≡ Settled v d → ⊥) → turn_words s map n m x ≡ x
+  idle_stays (Settled v d) e f = absurd (f v d refl)
+  idle_stays Done e f = done_stays e
 
 -- ---- where neither half goes on, the bench stays
 
@@ -111,62 +113,63 @@ other_other Backward = refl
 
 -- ---- the loop over the turns, which began on the bench x₀
 
--- so many turns are left, from a side on; where the last turn was idle, its half is done
-pub record Left (map : List ℕ) (n m : ℕ) (x₀ : List ℕ) (s : Side) (left : ℕ) (idle : Bool) (x : List ℕ) : Type 0 where
-  pub most : left ≤ 2 * n + 2
-  pub rest : alternated map n m x₀ ≡ alternate map n m s left x
+-- so many turns are taken, and the next one is of side s; where the last was idle, its half is done
+pub record Taken (map : List ℕ) (n m : ℕ) (x₀ : List ℕ) (s : Side) (taken : ℕ) (idle : Bool) (x : List ℕ) : Type 0 where
+  pub rest : alternated map n m x₀ ≡ alternate map n m s (2 * n + 2 - taken) x
   pub kept : turn_fault map n m x ≡ turn_fault map n m x₀
-  pub fine : left < 2 * n + 2 → turn_fault map n m x ≡ 0
+  pub fine : 0 < taken → turn_fault map n m x ≡ 0
   pub still : idle ≡ true → turn_words (other s) map n m x ≡ x
 
 module _ (map : List ℕ) (n m : ℕ) (x₀ : List ℕ) where
   abbrev Ended : ℕ → List ℕ → Type 0
   Ended number y = (number ≡ turn_fault map n m x₀) × (y ≡ alternated map n m x₀)
 
-  pub left_all : {k : ℕ} → k ≡ 2 * n + 2 → Left map n m x₀ Forward k false x₀
+  pub none_taken : Taken map n m x₀ Forward 0 false x₀
   unfolding alternated
-  left_all e =
-      record { most = omega arith; rest = rw e; kept = refl; fine = λ h. absurd (omega arith); still = λ h. absurd (true≢false (sym h)) }
+  none_taken =
+      let e : 2 * n + 2 - 0 ≡ 2 * n + 2 = omega arith in
+      record { rest = rw e; kept = refl; fine = λ h. absurd (omega arith); still = λ h. absurd (true≢false (sym h)) }
 
-  pub left_none : {s : Side} {k : ℕ} {idle : Bool} {x : List ℕ} → Left map n m x₀ s k idle x → k ≤ 0 → Ended 0 x
+  pub all_taken : {s : Side} {k : ℕ} {idle : Bool} {x : List ℕ} → Taken map n m x₀ s k idle x → 2 * n + 2 ≤ k → Ended 0 x
   unfolding alternate
-  left_none {k = k} l z =
-      let e : k ≡ 0 = omega arith in
-      (sym (l.fine (omega arith)) ∙ l.kept, sym (rw e at l).rest)
+  all_taken {k = k} t h =
+      let e : 2 * n + 2 - k ≡ 0 = omega arith in
+      (sym (t.fine (omega arith)) ∙ t.kept, sym (rw e at t.rest))
 
-  module _ {s : Side} {k : ℕ} {idle : Bool} {x y : List ℕ} (l : Left map n m x₀ s k idle x) (t : Turn) (e : said_turn t ≡ turn_said s map n m x) (p : y ≡ turn_words s map n m x) where
+  module _ {s : Side} {k : ℕ} {idle : Bool} {x y : List ℕ} (before : Taken map n m x₀ s k idle x) (t : Result Turn Refusal) (e : said_turn t ≡ turn_said s map n m x) (p : y ≡ turn_words s map n m x) where
     -- the turn is refused
-    pub left_refused : {number : ℕ} → number ≡ turn_number t → (number ≡ 0 → ⊥) → Ended number y
-    left_refused q z =
-        let a = q ∙ turn_number_lem map n m s x t e in
-        let f : (r : Side) → turn_words r map n m x ≡ x = λ r. refused_stays map n m r x (λ h. z (a ∙ h)) in
-        (a ∙ l.kept, p ∙ f s ∙ sym (l.rest ∙ alternate_stays map n m s x f k))
+    pub refused_taken : {r : Refusal} → t ≡ Err r → Ended (number_of r) y
+    refused_taken {r} q =
+        let a : number_of r ≡ turn_fault map n m x = ap fault_of (sym q) ∙ turn_number map n m s x t e in
+        let f : (v : Side) → turn_words v map n m x ≡ x = λ v. refused_stays map n m v x (λ h. number_not_zero r (a ∙ h)) in
+        (a ∙ before.kept, p ∙ f s ∙ sym (before.rest ∙ alternate_stays map n m s x f _))
 
-    -- one turn fewer is left
-    fewer : (k ≡ 0 → ⊥) → {r : Side} → r ≡ other s → turn_number t ≡ 0 → {again : Bool} → (again ≡ true → turn_words s map n m y ≡ y) → Left map n m x₀ r (k - 1) again y
-    fewer z q f still =
+    -- one turn more is taken
+    more : k < 2 * n + 2 → {r : Side} → r ≡ other s → fault_of t ≡ 0 → {again : Bool} → (again ≡ true → turn_words s map n m y ≡ y) → Taken map n m x₀ r (k + 1) again y
+    more h q f still =
         let a = turn_keeps map n m s x in
         let b : turn_fault map n m y ≡ turn_fault map n m x = rw p a in
+        let left : 2 * n + 2 - (k + 1) ≡ 2 * n + 2 - k - 1 = omega arith in
         record {
-          most = omega (arith, l.most);
-          rest = l.rest ∙ rw (q, p) (alternate_more map n m s x k z);
-          kept = b ∙ l.kept;
-          fine = λ h. b ∙ sym (turn_number_lem map n m s x t e) ∙ f;
+          rest = before.rest ∙ rw (left, q, p) (alternate_more map n m s x (2 * n + 2 - k) (λ z. omega arith));
+          kept = b ∙ before.kept;
+          fine = λ _. b ∙ sym (turn_number map n m s x t e) ∙ f;
           still = λ h. rw (q, other_other s) (still h);
         }
 
-    pub left_settled : (k ≡ 0 → ⊥) → {r : Side} → r ≡ other s → {v d : ℕ} → t ≡ Settled v d → Left map n m x₀ r (k - 1) false y
-    left_settled z q f = fewer z q (ap turn_number f) (λ h. absurd (true≢false (sym h)))
+    module _ {u : Turn} (q : t ≡ Ok u) where
+      pub settled_taken : k < 2 * n + 2 → {r : Side} → r ≡ other s → Taken map n m x₀ r (k + 1) false y
+      settled_taken h o = more h o (ap fault_of q) (λ z. absurd (true≢false (sym z)))
 
-    module _ (f : (v d : ℕ) → t ≡ Settled v d → ⊥) {number : ℕ} (q : number ≡ turn_number t) (z : number ≡ 0) where
-      same : turn_words s map n m x ≡ x
-      same = idle_stays map n m s x t e f (sym q ∙ z)
+      module _ (f : (v d : ℕ) → u ≡ Settled v d → ⊥) where
+        same : turn_words s map n m x ≡ x
+        same = idle_stays map n m s x u (ap said_turn (sym q) ∙ e) f
 
-      -- the half is done
-      pub left_idle : (k ≡ 0 → ⊥) → {r : Side} → r ≡ other s → Left map n m x₀ r (k - 1) true y
-      left_idle h o = fewer h o (sym q ∙ z) (λ _. rw (p ∙ same) same)
+        -- the half is done
+        pub idle_taken : k < 2 * n + 2 → {r : Side} → r ≡ other s → Taken map n m x₀ r (k + 1) true y
+        idle_taken h o = more h o (ap fault_of q) (λ _. rw (p ∙ same) same)
 
-      -- both are
-      pub left_done : idle ≡ true → Ended 0 y
-      left_done h =
-          (sym z ∙ q ∙ turn_number_lem map n m s x t e ∙ l.kept, p ∙ same ∙ sym (l.rest ∙ alternate_stays map n m s x (both_stay map n m s x same (l.still h)) k))
+        -- both are
+        pub both_done : idle ≡ true → Ended 0 y
+        both_done h =
+            (sym (ap fault_of q) ∙ turn_number map n m s x t e ∙ before.kept, p ∙ same ∙ sym (before.rest ∙ alternate_stays map n m s x (both_stay map n m s x same (before.still h)) _))

@@ -1,9 +1,13 @@
 -- What an argument of the program is: the whole of it one number by the text's rule. Assumes nothing.
-use Rattle.std.specs.Prelude.{cond, List, ℕ, eqb, length}
+use Rattle.std.specs.Prelude.{cond, List, ℕ, eqb, length, Option, Some, None, Result, Ok, Err}
 use Rattle.number.specs.Number.{number_at}
-use Rattle.line.specs.Line.{number_then}
-use Rattle.booklet.specs.declared.Argument.{Argument}
-use Rattle.booklet.specs.declared.Argument.TheVariants.{Value, Bad}
+use Rattle.number.specs.declared.Number.{Number}
+use Rattle.number.specs.declared.Misplaced.{Misplaced}
 
-unfoldable pub argument_of : List ℕ → Argument
-argument_of word = number_then (number_at word 0) (λ v end. cond (eqb end (length word)) (Value v) Bad) (λ p. Bad)
+-- the number, if it ends where the word does
+abbrev pub whole : List ℕ → Result Number Misplaced → Option ℕ
+whole word (Ok number) = cond (eqb number.next (length word)) (Some number.value) None
+whole word (Err misplaced) = None
+
+unfoldable pub argument_of : List ℕ → Option ℕ
+argument_of word = whole word (number_at word 0)

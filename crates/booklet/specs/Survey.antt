@@ -1,41 +1,20 @@
 -- What the program finds, from the text to the area: the first refusal, or the bench on which both halves are done and the mask of its area.
 -- Assumes nothing.
-use Rattle.std.specs.Prelude.{cond, List, [], ◌∷◌, ℕ, zero, suc, ◌+◌, ◌*◌, ◌≤◌, eqb, length, get_or, drop}
+use Rattle.std.specs.Prelude.{cond, List, [], ◌∷◌, ℕ, zero, suc, ◌+◌, ◌*◌, ◌≤◌, eqb, length, get_or, drop, Result, Ok, Err}
 use Rattle.limits.specs.First.{or_else}
+use Rattle.limits.specs.Refusals.{number_of}
 use Rattle.limits.specs.Said.{Said, told, refused, unless_refused}
 use Rattle.map.specs.Walk.{other}
 use Rattle.map.specs.declared.Side.{Side}
 use Rattle.map.specs.declared.Side.TheVariants.{Forward, Backward}
 use Rattle.text.specs.Text.{read_text, map_after}
+use Rattle.text.specs.declared.Refused.{Refused}
 use Rattle.shape.specs.Bench.{bench_words, words}
 use Rattle.area.specs.Finished.{area_fault}
 use Rattle.bench.specs.Calls.{open_fault, open_said, turn_words}
 use Rattle.bench.specs.Areas.{area_mask}
-use Rattle.bench.specs.declared.Opening.{Opening}
-use Rattle.bench.specs.declared.Opening.TheVariants as openings
-use Rattle.bench.specs.declared.Turn.{Turn}
-use Rattle.bench.specs.declared.Turn.TheVariants as turns
-use Rattle.bench.specs.declared.Filling.{Filling}
-use Rattle.bench.specs.declared.Filling.TheVariants as fillings
 use Rattle.demands.specs.Mixture.{turns_of, bench_at}
 use Rattle.booklet.specs.declared.Order.{Order}
-use Rattle.booklet.specs.declared.Outcome.{Outcome}
-use Rattle.booklet.specs.declared.Outcome.TheVariants.{Area, Refused}
-
--- ---- the number of refusal of an answer, 0 for none
-
-abbrev pub opening_number : Opening → ℕ
-opening_number openings.Opened = 0
-opening_number (openings.Refused number) = number
-
-abbrev pub turn_number : Turn → ℕ
-turn_number (turns.Settled crossing distance) = 0
-turn_number turns.Done = 0
-turn_number (turns.Refused number) = number
-
-abbrev pub filling_number : Filling → ℕ
-filling_number fillings.Area = 0
-filling_number (fillings.Refused number) = number
 
 -- ---- turns
 
@@ -75,9 +54,9 @@ area_told n number = cond (eqb number 0) (told (n ∷ [])) (refused number (0 �
 
 -- ---- the whole survey
 
-abbrev pub said : Outcome → Said
-said (Area n) = told (n ∷ [])
-said (Refused number line) = refused number (line ∷ [])
+abbrev pub said : Result ℕ Refused → Said
+said (Ok n) = told (n ∷ [])
+said (Err r) = refused (number_of r.refusal) (r.line ∷ [])
 
 -- a refused reading ends the survey; else it goes on with n and m
 abbrev pub read_then : {A : Type 0} → Said → (ℕ → ℕ → A) → (ℕ → List ℕ → A) → A
@@ -96,7 +75,6 @@ module _ (text map : List ℕ) (order : Order) (x mask : List ℕ) where
 
 -- ---- the list of the area
 
--- a bench and a mask hold what is listed of n crossings
-abbrev pub Holds : Outcome → List ℕ → List ℕ → Type 0
-Holds (Area n) x mask = (n ≤ 4096) × (bench_words n ≤ length x) × (n ≤ length mask)
-Holds (Refused number line) x mask = Unit
+-- a bench and a mask have room for what is listed of n crossings
+abbrev pub HasRoom : ℕ → List ℕ → List ℕ → Type 0
+HasRoom n x mask = (n ≤ 4096) × (bench_words n ≤ length x) × (n ≤ length mask)

@@ -2,21 +2,23 @@
 // first refusal alone.
 #![tactic(auto)]
 
-ghost use Rattle.std.specs.Prelude.{◌≡◌, ◌≤◌, length};
+ghost use Rattle.std.specs.Prelude.{◌≡◌, IfOk, OnOk};
+ghost use Rattle.limits.specs.Refusals.{fault_of};
 ghost use Rattle.text.specs.Text.{map_after};
 ghost use Rattle.map.specs.Walk.{other as other_of};
-ghost use Rattle.bench.specs.Calls.{said_turn, turn_fault, turn_said, turn_words};
+ghost use Rattle.bench.specs.Calls.{turn_fault};
 ghost use Rattle.booklet.specs.Argument.{argument_of};
-ghost use Rattle.booklet.specs.Survey.{opening_number, turn_number, filling_number, alternated, finished_words, area_number, finished_mask, area_told, said, survey_said, survey_bench, survey_mask, Holds};
+ghost use Rattle.booklet.specs.Survey.{alternated, finished_words, area_number, finished_mask, said, survey_said, survey_bench, survey_mask, HasRoom};
 
-use bench::{Filling, Opening, Turn};
+use bench::Turn;
+use limits::Refusal;
 use map::Side;
-use number::Number;
+use shape::Bench;
 use std::env::FillError;
 use std::io;
 use std::io::{Read, Write};
 use std::rt::Env;
-use text::Reading;
+use text::Refused;
 
 // The bytes of a text, the words of a map and the crossings of a bench that there is room for.
 const TEXT: usize = 65536;
@@ -38,41 +40,22 @@ struct Order {
     locality: u32,
 }
 
-// What one argument is, and what all of them are.
-#[derive(Clone, Copy)]
-enum Argument {
-    Value(u32),
-    Bad,
-}
-
-#[derive(Clone, Copy)]
-enum Arguments {
-    Given(Order),
-    Wrong,
-}
-
-// The whole word is one number by the text's rule.
-fn value_of(word: &[u8]) -> Argument
+// The number that the whole word is by the text's rule.
+#[tactic(auto, unfolding(crate::specs::Argument::argument_of))]
+fn value_of(word: &[u8]) -> Option<u32>
     ensures { result ≡ argument_of word.now }
 {
-    let got = number::number_at(word, 0);
-    match got {
-        Number::Bad(_) => Argument::Bad,
-        Number::Good(v, next) => {
-            if next == word.len() {
-                return Argument::Value(v);
-            }
-            Argument::Bad
-        }
+    let number = number::number_at(word, 0).ok()?;
+    if number.next != word.len() {
+        return None;
     }
+    Some(number.value)
 }
 
 // Argument i. One that is not there is no number, nor is one that has no room here, as it is longer than any number.
-fn argument_at<E: Env>(env: &E, i: usize) -> Argument {
+fn argument_at<E: Env>(env: &E, i: usize) -> Option<u32> {
     let mut word = [0u8; 16];
-    let Ok(k) = env.arg(i, &mut word) else {
-        return Argument::Bad;
-    };
+    let k = env.arg(i, &mut word).ok()?;
     value_of(&word[..k])
 }
 
@@ -83,46 +66,28 @@ fn is_given<E: Env>(env: &E, i: usize) -> bool {
 }
 
 // The order, of exactly four arguments behind the program's name.
-fn read_arguments<E: Env>(env: &E) -> Arguments {
+fn read_arguments<E: Env>(env: &E) -> Option<Order> {
     if is_given(env, 5) {
-        return Arguments::Wrong;
+        return None;
     }
-    let Argument::Value(start) = argument_at(env, 1) else {
-        return Arguments::Wrong;
-    };
-    let Argument::Value(target) = argument_at(env, 2) else {
-        return Arguments::Wrong;
-    };
-    let Argument::Value(stretch) = argument_at(env, 3) else {
-        return Arguments::Wrong;
-    };
-    let Argument::Value(locality) = argument_at(env, 4) else {
-        return Arguments::Wrong;
-    };
-    Arguments::Given(Order {
-        start: start,
-        target: target,
-        stretch: stretch,
-        locality: locality,
+    Some(Order {
+        start: argument_at(env, 1)?,
+        target: argument_at(env, 2)?,
+        stretch: argument_at(env, 3)?,
+        locality: argument_at(env, 4)?,
     })
 }
 
 // ---- the survey: from the text to the area
 
-// How a survey ends: with the area of a map of n crossings, or with a number of refusal and its line.
-#[derive(Clone, Copy)]
-enum Outcome {
-    Area(u32),
-    Refused(u32, u32),
-}
-
-// A refusal. Outside the text its line is 0.
-fn refuse(number: u32, line: u32) -> Outcome
-    ensures { result ≡ Outcome.Refused number line }
+// A refusal outside the text, at line 0.
+fn outside(refusal: Refusal) -> Refused
+    ensures { result ≡ record { refusal = refusal; line = 0 } }
 {
-    Outcome::Refused(number, line)
+    Refused { refusal, line: 0 }
 }
 
+#[tactic(auto, unfolding(map::specs::Walk::other))]
 fn other(side: Side) -> Side
     ensures { result ≡ other_of side }
 {
@@ -132,75 +97,30 @@ fn other(side: Side) -> Side
     }
 }
 
-fn turn_of(map: &[u32], n: u32, m: u32, side: Side, bench: &mut [u32]) -> Turn
-    ensures answer { said_turn result ≡ turn_said side map.now n m bench.old }
-    ensures bench { bench.new ≡ turn_words side map.now n m bench.old }
-{
-    match side {
-        Side::Forward => bench::forward(map, n, m, bench),
-        Side::Backward => bench::backward(map, n, m, bench),
-    }
-}
-
-// The number of refusal of an answer, 0 for none: Done is no refusal.
-fn turn_number(turn: Turn) -> u32
-    ensures { result ≡ turn_number turn }
-{
-    match turn {
-        Turn::Settled(_, _) => 0,
-        Turn::Done => 0,
-        Turn::Refused(number) => number,
-    }
-}
-
-fn opening_number(opening: Opening) -> u32
-    ensures { result ≡ opening_number opening }
-{
-    match opening {
-        Opening::Opened => 0,
-        Opening::Refused(number) => number,
-    }
-}
-
-fn filling_number(filling: Filling) -> u32
-    ensures { result ≡ filling_number filling }
-{
-    match filling {
-        Filling::Area => 0,
-        Filling::Refused(number) => number,
-    }
-}
-
 // Takes turns alternately, forward first, until both halves are done: then two turns in a row settle nothing. Each half is done by its
-// turn n + 1, so no more are taken. Answers the number of refusal, 0 for none.
-fn take_turns(map: &[u32], n: u32, m: u32, bench: &mut [u32]) -> u32
-    ensures answer { result ≡ turn_fault map.now n m bench.old }
+// turn n + 1, so no more are taken.
+fn take_turns(map: &[u32], n: u32, m: u32, bench: &mut [u32]) -> Result<(), Refusal>
+    ensures answer { fault_of result ≡ turn_fault map.now n m bench.old }
     ensures bench { bench.new ≡ alternated map.now n m bench.old }
 {
     let mut side = Side::Forward;
-    let mut left: u64 = 2 * (n as u64) + 2;
     let mut idle = false;
-    while 0 < left {
-        let turn = turn_of(map, n, m, side, bench);
+    for _ in 0..2 * u64::from(n) + 2 {
+        let turn = bench::take_turn(map, n, m, side, bench)?;
         side = other(side);
-        left -= 1;
         let Turn::Settled(_, _) = turn else {
-            let number = turn_number(turn);
-            if number != 0 {
-                return number;
-            }
             if idle {
-                return 0;
+                return Ok(());
             }
             idle = true;
             continue;
         };
         idle = false;
     }
-    0
+    Ok(())
 }
 
-// Opens the bench, takes the turns and fills the mask; stops at the first refusal.
+// Opens the bench, takes the turns and fills the mask. It takes each answer apart, and stops at the first refusal.
 fn find_area(
     order: Order,
     map: &[u32],
@@ -208,44 +128,48 @@ fn find_area(
     m: u32,
     bench: &mut [u32],
     mask: &mut [u8],
-) -> Outcome
-    ensures answer { said result ≡ area_told n (area_number map.now n m order bench.old mask.old) }
+) -> Result<(), Refusal>
+    ensures answer { fault_of result ≡ area_number map.now n m order bench.old mask.old }
     ensures bench { bench.new ≡ finished_words map.now n m order bench.old }
     ensures mask { mask.new ≡ finished_mask map.now n m order bench.old mask.old }
-    ensures room { Holds result bench.new mask.new }
+    ensures room { OnOk result (HasRoom n bench.new mask.new) }
 {
     let opening = bench::open_bench(map, n, m, order.start, order.target, order.stretch, bench);
-    let Opening::Opened = opening else {
-        return refuse(opening_number(opening), 0);
+    let Ok(()) = opening else {
+        return opening;
     };
-    let number = take_turns(map, n, m, bench);
-    if number != 0 {
-        return refuse(number, 0);
-    }
+    take_turns(map, n, m, bench)?;
     let filling = bench::area(map, n, m, bench, order.locality, mask);
-    let Filling::Area = filling else {
-        return refuse(filling_number(filling), 0);
+    let Ok(()) = filling else {
+        return filling;
     };
-    Outcome::Area(n)
+    Ok(())
 }
 
-// Reads the text, and finds the area on its map.
-fn survey(order: Order, text: &[u8], map: &mut [u32], bench: &mut [u32], mask: &mut [u8]) -> Outcome
+// Reads the text, and finds the area on its map. Answers how many crossings the map has.
+fn survey(
+    order: Order,
+    text: &[u8],
+    map: &mut [u32],
+    bench: &mut [u32],
+    mask: &mut [u8],
+) -> Result<u32, Refused>
     ensures answer { said result ≡ survey_said text.now map.old order bench.old mask.old }
     ensures map { map.new ≡ map_after text.now map.old }
     ensures bench { bench.new ≡ survey_bench text.now map.old order bench.old mask.old }
     ensures mask { mask.new ≡ survey_mask text.now map.old order bench.old mask.old }
-    ensures room { Holds result bench.new mask.new }
+    ensures room { IfOk result (λ n. HasRoom n bench.new mask.new) }
 {
-    match text::read(text, map) {
-        Reading::Refused(number, line) => refuse(number, line),
-        Reading::Read(n, m) => find_area(order, map, n, m, bench, mask),
+    let size = text::read(text, map)?;
+    match find_area(order, map, size.n, size.m, bench, mask) {
+        Ok(()) => Ok(size.n),
+        Err(refusal) => Err(outside(refusal)),
     }
 }
 
 // Prints a refusal, the only line that is printed then.
-fn print_refusal<W: Write>(out: &mut W, number: u32, line: u32) -> io::Result<()> {
-    listing::print_line(out, b'r', number as u64, line as u64)
+fn print_refusal<W: Write>(out: &mut W, refused: Refused) -> io::Result<()> {
+    writeln!(out, "r {} {}", refused.refusal.number(), refused.line)
 }
 
 fn report<W: Write>(
@@ -256,10 +180,15 @@ fn report<W: Write>(
     bench: &mut [u32],
     mask: &mut [u8],
 ) -> io::Result<()> {
-    let outcome = survey(order, text, map, bench, mask);
-    match outcome {
-        Outcome::Refused(number, line) => print_refusal(out, number, line),
-        Outcome::Area(n) => listing::print_area(out, bench, n as usize, mask),
+    match survey(order, text, map, bench, mask) {
+        Ok(n) => {
+            let bench = Bench {
+                words: bench,
+                n: n as usize,
+            };
+            listing::print_area(out, &bench, mask)
+        }
+        Err(refused) => print_refusal(out, refused),
     }
 }
 
@@ -272,42 +201,21 @@ fn run<W: Write>(out: &mut W, order: Order, text: &[u8]) -> io::Result<()> {
     report(out, order, text, &mut map, &mut bench, &mut mask)
 }
 
-// Reads until the buffer is full, the input ends or a read fails, and answers how many bytes it put at the start.
-fn read_full<R: Read>(input: &mut R, buffer: &mut [u8]) -> usize
-    ensures { result ≤ length buffer.new }
-{
-    let mut done = 0;
-    while done < buffer.len() {
-        let Ok(n) = input.read(&mut buffer[done..]) else {
-            break;
-        };
-        if n == 0 {
-            break;
-        }
-        done += n;
-    }
-    done
-}
-
 // Whether the input goes on behind a full text.
 fn goes_on<R: Read>(input: &mut R) -> bool {
     let mut one = [0u8; 1];
-    let k = read_full(input, &mut one);
-    k != 0
+    rows::read_full(input, &mut one) != 0
 }
 
 // The program over its arguments, its input and its output.
 fn answer<E: Env, R: Read, W: Write>(env: &E, input: &mut R, out: &mut W) -> io::Result<()> {
-    let given = read_arguments(env);
-    let Arguments::Given(order) = given else {
-        return print_refusal(out, 1, 0);
+    let Some(order) = read_arguments(env) else {
+        return print_refusal(out, outside(Refusal::Layout));
     };
     let mut text = [0u8; TEXT];
-    let k = read_full(input, &mut text);
-    if k == TEXT {
-        if goes_on(input) {
-            return print_refusal(out, 2, 0);
-        }
+    let k = rows::read_full(input, &mut text);
+    if k == TEXT && goes_on(input) {
+        return print_refusal(out, outside(Refusal::Count));
     }
     run(out, order, &text[..k])
 }

@@ -1,39 +1,42 @@
 -- `booklet::find_area` meets its contract: no turn is refused, and both halves are done after them. Assumes nothing.
-use mathlib.Core.Path.{sym, ap, ◌∙◌}
-use Rattle.bench.specs.Calls.{said_opening, turn_fault}
+use Rattle.std.proofs.Common.{sym, ap, ◌∙◌, rules}
+use Rattle.limits.proofs.Refused.{number_not_zero}
+use Rattle.limits.specs.Refusals.{fault_of}
 use Rattle.bench.specs.Areas.{said_filling}
-use Rattle.booklet.proofs.Area.{opening_number_lem, filling_number_lem, opening_refused, opened_turns, opened_finished, area_refused, area_found}
-use borrow.Author.Rules.{rules}
+use Rattle.bench.specs.Calls.{said_opening, turn_fault}
+use Rattle.booklet.proofs.Area.{opening_refused, opened_turns, opened_finished, area_refused, area_found}
 use Rattle.booklet.proofs.find_area.Goals as goal
 
 pub returns-in_default : goal.returns-in_default
 returns-in_default c =
     let s = c.args in
     let o = c.open_bench-opening in
-    let said = opening_refused s.map.now s.n s.m s.order s.bench.now (opening_number_lem o.result o.ensures.answer c.in_default.is c.opening_number.ensures) o.ensures.bench c.refuse.ensures s.mask.now in
-    record { answer = said.0; bench = said.1.0; mask = said.1.1.0; room = said.1.1.1 }
+    let found = opening_refused s.map.now s.n s.m s.order s.bench.now (ap said_opening (sym c.in_default.is) ∙ o.ensures.answer) o.ensures.bench s.mask.now in
+    record { answer = ap fault_of c.in_default.is ∙ found.answer; bench = found.bench; mask = found.mask; room = rw c.in_default.is found.room }
 
-pub returns-then-number-ne0 : goal.returns-then-number-ne0
-returns-then-number-ne0 c =
+pub returns-in_err-take_turns : goal.returns-in_err-take_turns
+returns-in_err-take_turns c =
     let s = c.args in
     let o = c.open_bench-opening in
-    let e = ap said_opening (sym c.in-Opened.is) ∙ o.ensures.answer in
-    absurd (c.if-number-ne0.true (c.take_turns-number.ensures.answer ∙ ap (turn_fault s.map.now s.n s.m) o.ensures.bench ∙ opened_turns s.map.now s.n s.m s.order s.bench.now e))
+    let e = ap said_opening (sym c.in-Ok.is) ∙ o.ensures.answer in
+    absurd (number_not_zero _ (ap fault_of (sym c.in_err-take_turns.was) ∙ c.take_turns.ensures.answer ∙ ap (turn_fault s.map.now s.n s.m) o.ensures.bench ∙ opened_turns s.map.now s.n s.m s.order s.bench.now e))
 
 pub returns-in_default-filling : goal.returns-in_default-filling
 returns-in_default-filling c =
     let s = c.args in
     let o = c.open_bench-opening in
-    let e = ap said_opening (sym c.in-Opened.is) ∙ o.ensures.answer in
+    let e = ap said_opening (sym c.in-Ok.is) ∙ o.ensures.answer in
     let a = c.area-filling in
-    let said = area_refused s.map.now s.n s.m s.order s.bench.now e (opened_finished s.map.now s.n s.m s.order s.bench.now e o.ensures.bench c.take_turns-number.ensures.bench) s.mask.now (filling_number_lem a.result a.ensures.answer c.in_default-filling.is c.filling_number.ensures) a.ensures.mask c.refuse-in_default-filling.ensures in
-    record { answer = said.0; bench = said.1.0; mask = said.1.1.0; room = said.1.1.1 }
+    let finished = opened_finished s.map.now s.n s.m s.order s.bench.now e o.ensures.bench c.take_turns.ensures.bench in
+    let found = area_refused s.map.now s.n s.m s.order s.bench.now e finished s.mask.now (ap said_filling (sym c.in_default-filling.is) ∙ a.ensures.answer) a.ensures.mask in
+    record { answer = ap fault_of c.in_default-filling.is ∙ found.answer; bench = found.bench; mask = found.mask; room = rw c.in_default-filling.is found.room }
 
 pub returns : goal.returns
 returns c =
     let s = c.args in
     let o = c.open_bench-opening in
-    let e = ap said_opening (sym c.in-Opened.is) ∙ o.ensures.answer in
+    let e = ap said_opening (sym c.in-Ok.is) ∙ o.ensures.answer in
     let a = c.area-filling in
-    let said = area_found s.map.now s.n s.m s.order s.bench.now e (opened_finished s.map.now s.n s.m s.order s.bench.now e o.ensures.bench c.take_turns-number.ensures.bench) s.mask.now (ap said_filling (sym c.in-Area.is) ∙ a.ensures.answer) a.ensures.mask (search rules) in
-    record { answer = said.0; bench = said.1.0; mask = said.1.1.0; room = said.1.1.1 }
+    let finished = opened_finished s.map.now s.n s.m s.order s.bench.now e o.ensures.bench c.take_turns.ensures.bench in
+    let found = area_found s.map.now s.n s.m s.order s.bench.now e finished s.mask.now (ap said_filling (sym c.in-Ok-filling.is) ∙ a.ensures.answer) a.ensures.mask (search rules) in
+    record { answer = found.answer; bench = found.bench; mask = found.mask; room = found.room }

@@ -1,20 +1,27 @@
 -- `booklet::survey` meets its contract. Assumes nothing.
-use mathlib.Core.Path.{sym, ap, ◌∙◌}
+use Rattle.std.proofs.Common.{sym, ap, ◌∙◌}
+use Rattle.std.proofs.lemmas.Result.{err_from_is_err_and}
 use Rattle.text.specs.Text.{said}
-use Rattle.booklet.proofs.Area.{reading_refused, reading_goes}
+use Rattle.booklet.proofs.Area.{reading_refused, area_missing, area_there}
 use Rattle.booklet.proofs.survey.Goals as goal
 
-pub returns-in-Refused : goal.returns-in-Refused
-returns-in-Refused c =
+pub returns-in_err-size : goal.returns-in_err-size
+returns-in_err-size c =
     let s = c.args in
-    let t = c.read in
-    let found = reading_refused s.text.now s.map.now s.order s.bench.now s.mask.now t.ensures.map c.refuse.result (ap said (sym c.in-Refused.is) ∙ t.ensures.answer) c.refuse.ensures in
-    record { answer = found.0; map = found.1.0; bench = found.1.1.0; mask = found.1.1.1.0; room = found.1.1.1.1 }
+    let p = err_from_is_err_and c.from_residual.result c.from_residual.ensures.1 in
+    let done = reading_refused s.text.now s.map.now s.order s.bench.now s.mask.now c.read.ensures.map c.in_err-size.field-0.0 (ap said (sym c.in_err-size.was) ∙ c.read.ensures.answer) in
+    record { answer = rw (p.1, p.2) done.answer; map = done.map; bench = done.bench; mask = done.mask; room = rw p.1 tt }
 
-pub returns-in-Read : goal.returns-in-Read
-returns-in-Read c =
+pub returns-in-Err : goal.returns-in-Err
+returns-in-Err c =
     let s = c.args in
-    let t = c.read in
-    let f = c.find_area.ensures in
-    let found = reading_goes s.text.now s.map.now s.order s.bench.now s.mask.now t.ensures.map c.find_area.result (ap said (sym c.in-Read.is) ∙ t.ensures.answer) (f.answer, (f.bench, (f.mask, f.room))) in
-    record { answer = found.0; map = found.1.0; bench = found.1.1.0; mask = found.1.1.1.0; room = found.1.1.1.1 }
+    let f = c.in-Err.ensures in
+    let done = area_missing s.text.now s.map.now s.order s.bench.now s.mask.now c.read.ensures.map (ap said (sym c.in_ok-size.was) ∙ c.read.ensures.answer) _ (record { answer = f.answer; bench = f.bench; mask = f.mask; room = tt }) in
+    record { answer = rw c.outside.ensures done.answer; map = done.map; bench = done.bench; mask = done.mask; room = tt }
+
+pub returns-in-Ok : goal.returns-in-Ok
+returns-in-Ok c =
+    let s = c.args in
+    let f = c.in-Ok.ensures in
+    let done = area_there s.text.now s.map.now s.order s.bench.now s.mask.now c.read.ensures.map (ap said (sym c.in_ok-size.was) ∙ c.read.ensures.answer) (record { answer = f.answer; bench = f.bench; mask = f.mask; room = f.room }) in
+    record { answer = done.answer; map = done.map; bench = done.bench; mask = done.mask; room = done.room }
