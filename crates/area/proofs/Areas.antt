@@ -2,16 +2,12 @@
 use Rattle.std.proofs.Common.{◌≡◌, ℕ, ◌≤◌, List}
 use Rattle.limits.specs.Limits.{locality_fault}
 use Rattle.limits.proofs.Laws.{or_else_none, room_none}
-use Rattle.shape.specs.Bench.{parse}
 use Rattle.shaped.proofs.Lent.{Ready, lent_ready}
-use Rattle.trail.specs.Trail.{Walkable}
 use Rattle.area.specs.Finished.{area_fault}
-use Rattle.area.proofs.Laws.{finished_walkable}
 
 -- a call that is not refused
 pub record Filled (map : List ℕ) (n m : ℕ) (x : List ℕ) (room : ℕ) : Type 0 where
   pub ready : Ready map n m x
-  pub walkable : Walkable map n (parse n x).forward (parse n x).backward (parse n x).marks
   pub fits : n ≤ room
 
 pub area_filled : (map : List ℕ) (n m : ℕ) (x : List ℕ) (locality room : ℕ) → area_fault map n m x locality room ≡ 0 → Filled map n m x room
@@ -20,4 +16,4 @@ area_filled map n m x locality room z =
     let a = or_else_none _ _ z in
     let r = (lent_ready map n m (locality_fault locality) x a.0).1 in
     let b = or_else_none _ _ a.1 in
-    record { ready = r; walkable = finished_walkable r.valid r.shaped b.1; fits = room_none n room b.0 }
+    record { ready = r; fits = room_none n room b.0 }
