@@ -7,7 +7,8 @@ use std::fmt::Display;
 use std::io;
 use std::io::{Read, Write};
 
-// Reads until the buffer is full, the input ends or a read fails, and answers how many bytes it put at the start.
+// Reads until the buffer is full, the input ends or a read fails, and answers how many bytes it put at the start. The library's own
+// reader to an end fills a `Vec`, and there is no heap here.
 pub fn read_full<R: Read>(input: &mut R, buffer: &mut [u8]) -> usize
     ensures { result ≤ length buffer.new }
 {
