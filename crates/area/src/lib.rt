@@ -64,7 +64,7 @@ fn check_half(lent: &Shaped, side: Side) -> Result<(), Refusal>
 }
 
 // Trails and marks are sound.
-#[tactic(auto, using(limits::proofs::Refused::refused_first, limits::proofs::Refused::passed_first), unfolding(crate::specs::Finished::trails_fault))]
+#[tactic(auto, using(limits::proofs::Refused::checks), unfolding(crate::specs::Finished::trails_fault))]
 fn check_trails(lent: &Shaped) -> Result<(), Refusal>
     ensures { fault_of result ≡ trails_fault lent.now.roads.map.now lent.now.roads.n lent.now.roads.m (parse lent.now.roads.n lent.now.bench.words.now) }
 {
@@ -73,7 +73,7 @@ fn check_trails(lent: &Shaped) -> Result<(), Refusal>
     check_marks(lent)
 }
 
-#[tactic(auto, using(limits::proofs::Refused::refused_first, limits::proofs::Refused::passed_first), unfolding(crate::specs::Finished::finished_fault))]
+#[tactic(auto, using(limits::proofs::Refused::checks), unfolding(crate::specs::Finished::finished_fault))]
 fn check_finished(lent: &Shaped) -> Result<(), Refusal>
     ensures { fault_of result ≡ finished_fault lent.now.roads.map.now lent.now.roads.n lent.now.roads.m (parse lent.now.roads.n lent.now.bench.words.now) }
 {
@@ -102,7 +102,7 @@ impl<'a, 'b> Finished<'a, 'b> {
 // ---- the area
 
 // What is lent to an area call whose mask has room for so many bytes.
-#[tactic(auto, using(limits::proofs::Refused::refused_first, limits::proofs::Refused::passed_first), unfolding(crate::specs::Finished::area_fault))]
+#[tactic(auto, using(limits::proofs::Refused::checks), unfolding(crate::specs::Finished::area_fault))]
 pub fn check_area<'a, 'b>(
     map: &'a [u32],
     n: u32,
@@ -150,7 +150,7 @@ fn route_length(finished: &Finished, crossing: u32) -> usize
 }
 
 // The asked crossing is marked, and its route has room.
-#[tactic(auto, using(limits::proofs::Refused::refused_first, limits::proofs::Refused::passed_first, crate::proofs::Routes::unmarked), unfolding(crate::specs::Finished::asked_fault))]
+#[tactic(auto, using(limits::proofs::Refused::checks, crate::proofs::Routes::unmarked), unfolding(crate::specs::Finished::asked_fault))]
 fn check_asked(finished: &Finished, crossing: u32, room: usize) -> Result<(), Refusal>
     requires { Between 1 finished.now.lent.roads.n crossing }
     ensures { fault_of result ≡ asked_fault finished.now.lent.roads.map.now (parse finished.now.lent.roads.n finished.now.lent.bench.words.now) crossing room }
@@ -162,7 +162,7 @@ fn check_asked(finished: &Finished, crossing: u32, room: usize) -> Result<(), Re
 }
 
 // What is lent to a route call whose buffer has room for so many words.
-#[tactic(auto, using(limits::proofs::Refused::refused_first, limits::proofs::Refused::passed_first), unfolding(crate::specs::Finished::route_fault))]
+#[tactic(auto, using(limits::proofs::Refused::checks), unfolding(crate::specs::Finished::route_fault))]
 pub fn check_route<'a, 'b>(
     map: &'a [u32],
     n: u32,

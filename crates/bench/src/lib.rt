@@ -26,7 +26,7 @@ pub enum Turn {
 // ---- opening
 
 // An order on a map of n crossings.
-#[tactic(auto, using(limits::proofs::Refused::refused_first, limits::proofs::Refused::passed_first), unfolding(crate::specs::Calls::order_fault))]
+#[tactic(auto, using(limits::proofs::Refused::checks), unfolding(crate::specs::Calls::order_fault))]
 fn check_order(n: u32, start: u32, target: u32, stretch: u32) -> Result<(), Refusal>
     ensures { fault_of result ≡ order_fault n start target stretch }
 {
@@ -35,7 +35,7 @@ fn check_order(n: u32, start: u32, target: u32, stretch: u32) -> Result<(), Refu
     limits::check_stretch(stretch)
 }
 
-#[tactic(auto, using(limits::proofs::Refused::refused_first, limits::proofs::Refused::passed_first), unfolding(crate::specs::Calls::open_fault))]
+#[tactic(auto, using(limits::proofs::Refused::checks), unfolding(crate::specs::Calls::open_fault))]
 fn check_open(
     map: &[u32],
     n: u32,

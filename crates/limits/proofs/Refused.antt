@@ -1,7 +1,7 @@
 -- Answers that refuse: no refusal has the number 0, so in a chain of checks the first that refuses tells the number. Assumes nothing.
 use Rattle.std.proofs.Common.{◌≡◌, ℕ, sym, ◌∙◌, arith, Result, Ok, Err, eqb}
 use borrow.Author.Tests.{eq-eqb, ne_eqb}
-use Rattle.std.specs.Result.{is_ok}
+use Rattle.std.specs.Result.{is_ok, result_and}
 use Rattle.limits.specs.First.{or_else}
 use Rattle.limits.specs.Refusals.{number_of, fault_of}
 use Rattle.limits.specs.declared.Refusal.{Refusal}
@@ -33,3 +33,11 @@ module _ (a b : ℕ) where
 pub passes : (r : Result (Unit {0}) Refusal) {k : ℕ} → fault_of r ≡ k → is_ok r ≡ eqb k 0
 passes (Ok a) e = sym (eq-eqb _ _ (sym e))
 passes (Err r) e = sym (ne_eqb _ _ (λ z. number_not_zero r (e ∙ z)))
+
+-- of two checks that are both made, the first that refuses tells the number
+pub told_and : (r s : Result (Unit {0}) Refusal) {a b : ℕ} → fault_of r ≡ a → fault_of s ≡ b → fault_of (result_and r s) ≡ or_else a b
+told_and (Ok u) s {a} {b} e h = h ∙ sym (or_else_second a b (sym e))
+told_and (Err r) s {a} {b} e h = e ∙ sym (or_else_first a b (λ z. number_not_zero r (e ∙ z)))
+
+-- what a chain of checks with `?` tells
+pub ruleset checks = (refused_first, passed_first)

@@ -15,16 +15,17 @@ pub enum Side {
     Backward,
 }
 
-// The ends of link k, then its cost.
-#[tactic(auto, using(limits::proofs::Refused::refused_first, limits::proofs::Refused::passed_first), unfolding(crate::specs::Map::link_fault, crate::specs::Map::ends_fault, crate::specs::Map::tail, crate::specs::Map::head, crate::specs::Map::cost))]
+// The ends of link k, then its cost. All three are checked, and none is left out early, so that the compiler can take several links at a time.
+#[tactic(auto, using(limits::proofs::Refused::told_and), unfolding(crate::specs::Map::link_fault, crate::specs::Map::ends_fault, crate::specs::Map::tail, crate::specs::Map::head, crate::specs::Map::cost))]
 fn check_link(map: &[u32], n: u32, k: usize) -> Result<(), Refusal>
     requires { (1 ≤ k) × (3 * k ≤ length map.now) }
     ensures { fault_of result ≡ link_fault n map.now k }
 {
     let end = 3 * k;
-    limits::check_crossing(n, map[end - 3])?;
-    limits::check_crossing(n, map[end - 2])?;
-    limits::check_cost(map[end - 1])
+    let tail = limits::check_crossing(n, map[end - 3]);
+    let head = limits::check_crossing(n, map[end - 2]);
+    let cost = limits::check_cost(map[end - 1]);
+    tail.and(head).and(cost)
 }
 
 // Links 1 to m, link by link, where first it is asked whether there is any fault: the compiler takes several links at a time for that.
@@ -42,7 +43,7 @@ fn check_links(map: &[u32], n: u32, m: usize) -> Result<(), Refusal>
 }
 
 // The first fault of a lent map of n crossings and m links: the counts, the room, then the links.
-#[tactic(auto, using(limits::proofs::Refused::refused_first, limits::proofs::Refused::passed_first, limits::proofs::Laws::room_for), unfolding(crate::specs::Map::map_fault, crate::specs::Map::counts_fault))]
+#[tactic(auto, using(limits::proofs::Refused::checks, limits::proofs::Laws::room_for), unfolding(crate::specs::Map::map_fault, crate::specs::Map::counts_fault))]
 pub fn check(map: &[u32], n: u32, m: u32) -> Result<(), Refusal>
     ensures { fault_of result ≡ map_fault n m map.now }
 {

@@ -24,7 +24,7 @@ fn check_same(a: u32, b: u32) -> Result<(), Refusal>
     Ok(())
 }
 
-#[tactic(auto, using(limits::proofs::Refused::refused_first, limits::proofs::Refused::passed_first), unfolding(crate::specs::Shape::unseen_fault))]
+#[tactic(auto, using(limits::proofs::Refused::checks), unfolding(crate::specs::Shape::unseen_fault))]
 fn check_unseen(e: Entry) -> Result<(), Refusal>
     ensures { fault_of result ≡ unseen_fault e }
 {
@@ -32,7 +32,7 @@ fn check_unseen(e: Entry) -> Result<(), Refusal>
     check_same(e.link, 0)
 }
 
-#[tactic(auto, using(limits::proofs::Refused::refused_first, limits::proofs::Refused::passed_first), unfolding(crate::specs::Shape::seen_fault))]
+#[tactic(auto, using(limits::proofs::Refused::checks), unfolding(crate::specs::Shape::seen_fault))]
 fn check_seen(m: u32, e: Entry) -> Result<(), Refusal>
     ensures { fault_of result ≡ seen_fault m e }
 {
@@ -82,7 +82,7 @@ fn check_optimum(optimum: u32) -> Result<(), Refusal>
     limits::check_range(0, CEILING, Refusal::Shape, optimum)
 }
 
-#[tactic(auto, using(limits::proofs::Refused::refused_first, limits::proofs::Refused::passed_first), unfolding(crate::specs::Shape::size_fault, shape::specs::Bench::parse))]
+#[tactic(auto, using(limits::proofs::Refused::checks), unfolding(crate::specs::Shape::size_fault, shape::specs::Bench::parse))]
 fn check_size(roads: &Roads, bench: &Bench) -> Result<(), Refusal>
     ensures { fault_of result ≡ size_fault roads.now.n roads.now.m (parse bench.now.n bench.now.words.now) }
 {
@@ -90,7 +90,7 @@ fn check_size(roads: &Roads, bench: &Bench) -> Result<(), Refusal>
     check_same(bench.words[1], roads.m)
 }
 
-#[tactic(auto, using(limits::proofs::Refused::refused_first, limits::proofs::Refused::passed_first), unfolding(crate::specs::Shape::ends_fault))]
+#[tactic(auto, using(limits::proofs::Refused::checks), unfolding(crate::specs::Shape::ends_fault))]
 fn check_ends(roads: &Roads, bench: &Bench) -> Result<(), Refusal>
     ensures { fault_of result ≡ ends_fault roads.now.n (parse bench.now.n bench.now.words.now) }
 {
@@ -99,7 +99,7 @@ fn check_ends(roads: &Roads, bench: &Bench) -> Result<(), Refusal>
 }
 
 // Words 0 to 5.
-#[tactic(auto, using(limits::proofs::Refused::refused_first, limits::proofs::Refused::passed_first), unfolding(crate::specs::Shape::head_fault))]
+#[tactic(auto, using(limits::proofs::Refused::checks), unfolding(crate::specs::Shape::head_fault))]
 fn check_head(roads: &Roads, bench: &Bench) -> Result<(), Refusal>
     ensures { fault_of result ≡ head_fault roads.now.n roads.now.m (parse bench.now.n bench.now.words.now) }
 {
@@ -110,7 +110,7 @@ fn check_head(roads: &Roads, bench: &Bench) -> Result<(), Refusal>
 }
 
 // Whether the bench is well shaped for the roads.
-#[tactic(auto, using(limits::proofs::Refused::refused_first, limits::proofs::Refused::passed_first), unfolding(crate::specs::Shape::shape_fault))]
+#[tactic(auto, using(limits::proofs::Refused::checks), unfolding(crate::specs::Shape::shape_fault))]
 fn check_shape(roads: &Roads, bench: &Bench) -> Result<(), Refusal>
     requires { bench.now.n ≡ roads.now.n }
     ensures { fault_of result ≡ shape_fault roads.now.n roads.now.m (parse roads.now.n bench.now.words.now) }
@@ -131,7 +131,7 @@ pub struct Shaped<'a, 'b> {
 }
 
 // The map, then the check of the call's own number, made before, then the bench.
-#[tactic(auto, using(limits::proofs::Refused::refused_first, limits::proofs::Refused::passed_first, limits::proofs::Laws::room_for, crate::proofs::Shapes::shaped_for), unfolding(crate::specs::Lent::lent_fault))]
+#[tactic(auto, using(limits::proofs::Refused::checks, limits::proofs::Laws::room_for, crate::proofs::Shapes::shaped_for), unfolding(crate::specs::Lent::lent_fault))]
 pub fn check_lent<'a, 'b>(
     map: &'a [u32],
     n: u32,
