@@ -5,7 +5,6 @@
 ghost use Rattle.std.specs.Prelude.{◌≡◌, IfOk, OnOk};
 ghost use Rattle.limits.specs.Refusals.{fault_of};
 ghost use Rattle.text.specs.Text.{map_after};
-ghost use Rattle.map.specs.Walk.{other as other_of};
 ghost use Rattle.bench.specs.Calls.{turn_fault};
 ghost use Rattle.booklet.specs.Argument.{argument_of};
 ghost use Rattle.booklet.specs.Survey.{alternated, finished_words, area_number, finished_mask, said, survey_said, survey_bench, survey_mask, HasRoom};
@@ -87,16 +86,6 @@ fn outside(refusal: Refusal) -> Refused
     Refused { refusal, line: 0 }
 }
 
-#[tactic(auto, unfolding(map::specs::Walk::other))]
-fn other(side: Side) -> Side
-    ensures { result ≡ other_of side }
-{
-    match side {
-        Side::Forward => Side::Backward,
-        Side::Backward => Side::Forward,
-    }
-}
-
 // Takes turns alternately, forward first, until both halves are done: then two turns in a row settle nothing. Each half is done by its
 // turn n + 1, so no more are taken.
 fn take_turns(map: &[u32], n: u32, m: u32, bench: &mut [u32]) -> Result<(), Refusal>
@@ -107,7 +96,7 @@ fn take_turns(map: &[u32], n: u32, m: u32, bench: &mut [u32]) -> Result<(), Refu
     let mut idle = false;
     for _ in 0..2 * u64::from(n) + 2 {
         let turn = bench::take_turn(map, n, m, side, bench)?;
-        side = other(side);
+        side = side.other();
         let Turn::Settled(_, _) = turn else {
             if idle {
                 return Ok(());

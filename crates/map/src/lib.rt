@@ -5,6 +5,7 @@ ghost use Rattle.std.specs.Prelude.{◌≡◌, ◌*◌, ◌≤◌, length, IfOk}
 ghost use Rattle.limits.specs.First.{first_from};
 ghost use Rattle.limits.specs.Refusals.{fault_of};
 ghost use Rattle.map.specs.Map.{Valid, link_fault, map_fault};
+ghost use Rattle.map.specs.Walk.{other};
 
 use limits::Refusal;
 
@@ -13,6 +14,19 @@ use limits::Refusal;
 pub enum Side {
     Forward,
     Backward,
+}
+
+impl Side {
+    // The side that drives the links the other way.
+    #[tactic(auto, unfolding(crate::specs::Walk::other))]
+    pub fn other(self) -> Side
+        ensures { result ≡ other self }
+    {
+        match self {
+            Side::Forward => Side::Backward,
+            Side::Backward => Side::Forward,
+        }
+    }
 }
 
 // The ends of link k, then its cost. All three are checked, and none is left out early, so that the compiler can take several links at a time.

@@ -3,9 +3,8 @@
 
 ghost use Rattle.std.specs.Prelude.{◌≡◌, ◌≤◌, length, drop, replicate};
 ghost use Rattle.limits.specs.Limits.{Between};
-ghost use Rattle.map.specs.Walk.{other};
 ghost use Rattle.half.specs.Half.{unknown, dist, open_half, settled_at};
-ghost use Rattle.shape.specs.Bench.{half as half_of, root, bench_words, words, parse, opened as opened_bench, WellShaped};
+ghost use Rattle.shape.specs.Bench.{half as half_of, bench_words, words, parse, opened as opened_bench, WellShaped};
 ghost use Rattle.shape.specs.Parts.{with_head, with_half, with_marks};
 ghost use Rattle.shape.specs.Rules.{settled_by};
 ghost use Rattle.writing.specs.Writing.{unmarked};
@@ -64,17 +63,6 @@ pub fn write_opened(bench: &mut [u32], n: u32, m: u32, start: u32, target: u32, 
 
 // ---- a turn
 
-// The crossing that makes the optimum known: where the other half opened.
-#[tactic(auto, unfolding(map::specs::Walk::other))]
-fn goal(bench: &Bench, side: Side) -> u32
-    ensures { result ≡ root (other side) (parse bench.now.n bench.now.words.now) }
-{
-    match side {
-        Side::Forward => bench.root(Side::Backward),
-        Side::Backward => bench.root(Side::Forward),
-    }
-}
-
 // Rule 2 on the half of a side.
 #[tactic(auto, using(crate::proofs::Laws::settled_by_lem))]
 fn settle_half(roads: &Roads, side: Side, x: usize, bench: &mut [u32])
@@ -87,7 +75,7 @@ fn settle_half(roads: &Roads, side: Side, x: usize, bench: &mut [u32])
     half::settle(&mut bench[a..e], roads, side, x);
 }
 
-// Rules 2 and 3 for x, settled at distance d.
+// Rules 2 and 3 for x, settled at distance d: the optimum is known where x is the crossing at which the other half opened.
 #[tactic(auto, using(crate::proofs::Laws::unmarked_by))]
 fn settle_at(roads: &Roads, side: Side, x: usize, d: u32, bench: &mut [u32])
     requires { Between 1 roads.now.n x × (bench_words roads.now.n ≤ length bench.old) × WellShaped roads.now.n roads.now.m (parse roads.now.n bench.old) × (d ≡ dist (half_of side (parse roads.now.n bench.old)) x) }
@@ -98,7 +86,8 @@ fn settle_at(roads: &Roads, side: Side, x: usize, d: u32, bench: &mut [u32])
         words: bench,
         n: roads.n as usize,
     };
-    let optimum = shape::found(goal(&settled, side), x as u32, d, settled.optimum());
+    let goal = settled.root(side.other());
+    let optimum = shape::found(goal, x as u32, d, settled.optimum());
     bench[5] = optimum;
 }
 
