@@ -66,12 +66,3 @@ finished_routed {b = b} crossing valid shaped z inside marked =
     let w = finished_walkable valid shaped z in
     let one : get_or b.marks (crossing - 1) 0 ≡ 1 = omega (arith, marked, shaped.marks_in crossing inside) in
     (w.forward, w.backward, w.marked_forward crossing inside one, w.marked_backward crossing inside one)
-
--- the same of its parts as they are lent on
-module _ {map : List ℕ} {n m : ℕ} (x : List ℕ) (valid : Valid n m map) (shaped : WellShaped n m (parse n x)) (z : finished_fault map n m (parse n x) ≡ 0)
-    {i k : ℕ} {f g : List ℕ} (same : i ≡ n) (e : k ≡ i) (p : f ≡ half Forward (parse i x)) (q : g ≡ half Backward (parse i x)) where
-  pub walkable_parts : {marks : List ℕ} → marks ≡ (parse i x).marks → Walkable map k f g marks
-  walkable_parts w = rw (e, p, q, w, same) (finished_walkable valid shaped z)
-
-  pub routed_parts : (crossing : ℕ) → Between 1 n crossing → (get_or (parse n x).marks (crossing - 1) 0 ≡ 0 → ⊥) → Trails Forward map k f × Trails Backward map k g × Settled k f crossing × Settled k g crossing
-  routed_parts crossing inside marked = rw (e, p, q, same) (finished_routed crossing valid shaped z inside marked)

@@ -12,6 +12,7 @@ ghost use Rattle.area.specs.Finished.{done_fault, unknown_fault, rule_fault, tra
 
 use limits::Refusal;
 use map::Side;
+use route::BothTrails;
 use shaped::Shaped;
 
 // ---- a finished bench
@@ -44,11 +45,8 @@ fn check_marks(lent: &Shaped) -> Result<(), Refusal>
     ensures { fault_of result ≡ rule_fault lent.now.roads.n (parse lent.now.roads.n lent.now.bench.words.now) }
 {
     let bench = &lent.bench;
-    let there = bench.half(Side::Forward);
-    let back = bench.half(Side::Backward);
     trail::check_marks(
-        &there,
-        &back,
+        &bench.halves(),
         bench.marks(),
         bench.stretch(),
         bench.optimum(),
@@ -97,6 +95,19 @@ impl<'a, 'b> Finished<'a, 'b> {
         check_finished(&lent)?;
         Ok(Finished { lent })
     }
+
+    // The trails of both halves, which a finished bench lets be walked.
+    fn trails(&self) -> BothTrails<'_>
+        ensures map { result.map.now ≡ self.now.lent.roads.map.now }
+        ensures n { result.halves.forward.n ≡ self.now.lent.roads.n }
+        ensures forward { result.halves.forward.words.now ≡ (parse self.now.lent.roads.n self.now.lent.bench.words.now).forward }
+        ensures backward { result.halves.backward.words.now ≡ (parse self.now.lent.roads.n self.now.lent.bench.words.now).backward }
+    {
+        BothTrails {
+            map: self.lent.roads.map,
+            halves: self.lent.bench.halves(),
+        }
+    }
 }
 
 // ---- the area
@@ -124,17 +135,8 @@ pub fn fill_area(finished: &Finished, locality: u32, mask: &mut [u8])
     requires { finished.now.lent.roads.n ≤ length mask.old }
     ensures { mask.new ≡ sets mask.old 0 (mask_of finished.now.lent.roads.map.now locality (parse finished.now.lent.roads.n finished.now.lent.bench.words.now)) }
 {
-    let bench = &finished.lent.bench;
-    let there = bench.half(Side::Forward);
-    let back = bench.half(Side::Backward);
-    route::fill_mask(
-        finished.lent.roads.map,
-        &there,
-        &back,
-        bench.marks(),
-        locality,
-        mask,
-    );
+    let marks = finished.lent.bench.marks();
+    finished.trails().fill_mask(marks, locality, mask);
 }
 
 // ---- the route of an asked crossing
@@ -143,10 +145,7 @@ fn route_length(finished: &Finished, crossing: u32) -> usize
     requires { Between 1 finished.now.lent.roads.n crossing × (get_or (parse finished.now.lent.roads.n finished.now.lent.bench.words.now).marks (crossing - 1) 0 ≡ 0 → ⊥) }
     ensures { result ≡ length (route_of finished.now.lent.roads.map.now (parse finished.now.lent.roads.n finished.now.lent.bench.words.now) crossing) }
 {
-    let bench = &finished.lent.bench;
-    let there = bench.half(Side::Forward);
-    let back = bench.half(Side::Backward);
-    route::route_length(finished.lent.roads.map, &there, &back, crossing)
+    finished.trails().route_length(crossing)
 }
 
 // The asked crossing is marked, and its route has room.
@@ -185,8 +184,5 @@ pub fn write_route(finished: &Finished, crossing: u32, buffer: &mut [u32]) -> us
     requires { Between 1 finished.now.lent.roads.n crossing × (asked_fault finished.now.lent.roads.map.now (parse finished.now.lent.roads.n finished.now.lent.bench.words.now) crossing (length buffer.old) ≡ 0) }
     ensures { (result ≡ length (route_of finished.now.lent.roads.map.now (parse finished.now.lent.roads.n finished.now.lent.bench.words.now) crossing)) × (buffer.new ≡ sets buffer.old 0 (route_of finished.now.lent.roads.map.now (parse finished.now.lent.roads.n finished.now.lent.bench.words.now) crossing)) }
 {
-    let bench = &finished.lent.bench;
-    let there = bench.half(Side::Forward);
-    let back = bench.half(Side::Backward);
-    route::write_route(finished.lent.roads.map, &there, &back, crossing, buffer)
+    finished.trails().write_route(crossing, buffer)
 }

@@ -4,6 +4,7 @@
 ghost use Rattle.std.specs.Prelude.{◌≡◌, reverse, ◌+◌, ◌≤◌, length, IfSome};
 ghost use Rattle.std.proofs.lemmas.List.Edits.{sets};
 ghost use Rattle.limits.specs.Limits.{Between};
+ghost use Rattle.map.specs.Walk.{by_side};
 ghost use Rattle.map.specs.declared.Side.TheVariants.{Forward as forward, Backward as backward};
 ghost use Rattle.half.specs.Half.{or_zero, ceiling, dist};
 ghost use Rattle.trail.specs.Trail.{trail as trail_of, Settled, Trails as CanWalk, Walkable};
@@ -11,6 +12,7 @@ ghost use Rattle.route.specs.Area.{agrees_at, local_in, mask_at, mask_filled, ro
 
 use half::{Half, SETTLED};
 use map::Side;
+use shape::Halves;
 use trail::Trails;
 
 // The other half has settled q, at distance sum.
@@ -44,60 +46,6 @@ fn local_in(trails: &Trails, other: &Half, locality: u32, x: u32) -> bool
     true
 }
 
-// What the mask holds of x.
-#[tactic(auto, unfolding(crate::specs::Area::mask_at))]
-fn mask_at(map: &[u32], f: &Half, g: &Half, marks: &[u32], locality: u32, x: u32) -> u8
-    requires { (g.now.n ≡ f.now.n) × Walkable map.now f.now.n f.now.words.now g.now.words.now marks.now × Between 1 f.now.n x }
-    ensures { result ≡ mask_at map.now f.now.n locality f.now.words.now g.now.words.now marks.now x }
-{
-    if marks[x as usize - 1] != 1 {
-        return 0;
-    }
-    let there = Trails {
-        map,
-        half: *f,
-        side: Side::Forward,
-    };
-    let on = Trails {
-        map,
-        half: *g,
-        side: Side::Backward,
-    };
-    if local_in(&there, g, locality, x) && local_in(&on, f, locality, x) {
-        2
-    } else {
-        1
-    }
-}
-
-// Fills the first n bytes of the mask.
-pub fn fill_mask(map: &[u32], f: &Half, g: &Half, marks: &[u32], locality: u32, mask: &mut [u8])
-    requires { (g.now.n ≡ f.now.n) × Walkable map.now f.now.n f.now.words.now g.now.words.now marks.now × (f.now.n ≤ 4096) × (f.now.n ≤ length mask.old) }
-    ensures { mask.new ≡ mask_filled map.now f.now.n locality f.now.words.now g.now.words.now marks.now mask.old }
-{
-    for x in 1..=f.n {
-        mask[x - 1] = mask_at(map, f, g, marks, locality, x as u32);
-    }
-}
-
-// The length of the route through x, had before the first word is written.
-pub fn route_length(map: &[u32], f: &Half, g: &Half, x: u32) -> usize
-    requires { (g.now.n ≡ f.now.n) × CanWalk forward map.now f.now.n f.now.words.now × CanWalk backward map.now f.now.n g.now.words.now × Settled f.now.n f.now.words.now x × Settled f.now.n g.now.words.now x }
-    ensures { result ≡ length (route_in map.now f.now.n f.now.words.now g.now.words.now x) }
-{
-    let there = Trails {
-        map,
-        half: *f,
-        side: Side::Forward,
-    };
-    let on = Trails {
-        map,
-        half: *g,
-        side: Side::Backward,
-    };
-    there.length(x) + on.length(x) - 1
-}
-
 // The trail of x, of length k, written backward: x at index k - 1.
 fn write_back(trails: &Trails, k: usize, x: u32, buffer: &mut [u32])
     requires { Settled trails.now.half.n trails.now.half.words.now x × (k ≡ length (trail_of trails.now.side trails.now.map.now trails.now.half.n trails.now.half.words.now x)) × (k ≤ length buffer.old) }
@@ -127,22 +75,81 @@ fn write_on(trails: &Trails, k: usize, first: Option<u32>, buffer: &mut [u32]) -
     i
 }
 
-// Writes the route through x over the first words of the buffer; answers its length.
-pub fn write_route(map: &[u32], f: &Half, g: &Half, x: u32, buffer: &mut [u32]) -> usize
-    requires { (g.now.n ≡ f.now.n) × CanWalk forward map.now f.now.n f.now.words.now × CanWalk backward map.now f.now.n g.now.words.now × Settled f.now.n f.now.words.now x × Settled f.now.n g.now.words.now x × (length (route_in map.now f.now.n f.now.words.now g.now.words.now x) ≤ length buffer.old) }
-    ensures { (result ≡ length (route_in map.now f.now.n f.now.words.now g.now.words.now x)) × (buffer.new ≡ sets buffer.old 0 (route_in map.now f.now.n f.now.words.now g.now.words.now x)) }
-{
-    let there = Trails {
-        map,
-        half: *f,
-        side: Side::Forward,
-    };
-    let on = Trails {
-        map,
-        half: *g,
-        side: Side::Backward,
-    };
-    let k = there.length(x);
-    write_back(&there, k, x, buffer);
-    write_on(&on, k, on.after(x), buffer)
+// The trails of both halves, which can be walked.
+#[derive(Clone, Copy)]
+pub struct BothTrails<'a> {
+    pub map: &'a [u32],
+    pub halves: Halves<'a>,
+    ghost forward: { CanWalk forward map.now halves.forward.n halves.forward.words.now },
+    ghost backward: { CanWalk backward map.now halves.forward.n halves.backward.words.now },
+}
+
+impl<'a> BothTrails<'a> {
+    // Those of a side.
+    fn trails(&self, side: Side) -> Trails<'a>
+        ensures map { result.map.now ≡ self.now.map.now }
+        ensures n { result.half.n ≡ self.now.halves.forward.n }
+        ensures words { result.half.words.now ≡ by_side side self.now.halves.forward.words.now self.now.halves.backward.words.now }
+        ensures side { result.side ≡ side }
+    {
+        let half = match side {
+            Side::Forward => self.halves.forward,
+            Side::Backward => self.halves.backward,
+        };
+        Trails {
+            map: self.map,
+            half,
+            side,
+        }
+    }
+
+    // What the mask holds of x.
+    #[tactic(auto, unfolding(crate::specs::Area::mask_at))]
+    fn mask_at(&self, marks: &[u32], locality: u32, x: u32) -> u8
+        requires { Walkable self.now.map.now self.now.halves.forward.n self.now.halves.forward.words.now self.now.halves.backward.words.now marks.now × Between 1 self.now.halves.forward.n x }
+        ensures { result ≡ mask_at self.now.map.now self.now.halves.forward.n locality self.now.halves.forward.words.now self.now.halves.backward.words.now marks.now x }
+    {
+        if marks[x as usize - 1] != 1 {
+            return 0;
+        }
+        let there = self.trails(Side::Forward);
+        let on = self.trails(Side::Backward);
+        if local_in(&there, &on.half, locality, x) && local_in(&on, &there.half, locality, x) {
+            2
+        } else {
+            1
+        }
+    }
+
+    // Fills the first n bytes of the mask.
+    pub fn fill_mask(&self, marks: &[u32], locality: u32, mask: &mut [u8])
+        requires { Walkable self.now.map.now self.now.halves.forward.n self.now.halves.forward.words.now self.now.halves.backward.words.now marks.now × (self.now.halves.forward.n ≤ 4096) × (self.now.halves.forward.n ≤ length mask.old) }
+        ensures { mask.new ≡ mask_filled self.now.map.now self.now.halves.forward.n locality self.now.halves.forward.words.now self.now.halves.backward.words.now marks.now mask.old }
+    {
+        for x in 1..=self.halves.forward.n {
+            mask[x - 1] = self.mask_at(marks, locality, x as u32);
+        }
+    }
+
+    // The length of the route through x, had before the first word is written.
+    pub fn route_length(&self, x: u32) -> usize
+        requires { Settled self.now.halves.forward.n self.now.halves.forward.words.now x × Settled self.now.halves.forward.n self.now.halves.backward.words.now x }
+        ensures { result ≡ length (route_in self.now.map.now self.now.halves.forward.n self.now.halves.forward.words.now self.now.halves.backward.words.now x) }
+    {
+        let there = self.trails(Side::Forward).length(x);
+        let on = self.trails(Side::Backward).length(x);
+        there + on - 1
+    }
+
+    // Writes the route through x over the first words of the buffer; answers its length.
+    pub fn write_route(&self, x: u32, buffer: &mut [u32]) -> usize
+        requires { Settled self.now.halves.forward.n self.now.halves.forward.words.now x × Settled self.now.halves.forward.n self.now.halves.backward.words.now x × (length (route_in self.now.map.now self.now.halves.forward.n self.now.halves.forward.words.now self.now.halves.backward.words.now x) ≤ length buffer.old) }
+        ensures { (result ≡ length (route_in self.now.map.now self.now.halves.forward.n self.now.halves.forward.words.now self.now.halves.backward.words.now x)) × (buffer.new ≡ sets buffer.old 0 (route_in self.now.map.now self.now.halves.forward.n self.now.halves.forward.words.now self.now.halves.backward.words.now x)) }
+    {
+        let there = self.trails(Side::Forward);
+        let on = self.trails(Side::Backward);
+        let k = there.length(x);
+        write_back(&there, k, x, buffer);
+        write_on(&on, k, on.after(x), buffer)
+    }
 }

@@ -2,9 +2,8 @@
 #![tactic(auto)]
 
 ghost use Rattle.std.specs.Prelude.{◌≡◌, ◌≤◌, length, get_or};
-ghost use Rattle.limits.specs.Limits.{Between};
 ghost use Rattle.shape.specs.Bench.{bench_words, words, parse};
-ghost use Rattle.shape.specs.Rules.{done, mark, remarked};
+ghost use Rattle.shape.specs.Rules.{done, remarked};
 
 use map::Side;
 use shape::Bench;
@@ -22,17 +21,6 @@ pub fn is_done(bench: &Bench, side: Side) -> bool
     shape::beyond(bench.stretch(), bench.optimum(), half.entry(x).dist)
 }
 
-// Rule 4 for crossing v.
-#[tactic(auto, unfolding(shape::specs::Rules::mark))]
-fn mark_at(bench: &Bench, stretch: u32, optimum: u32, v: usize) -> u32
-    requires { Between 1 bench.now.n v }
-    ensures { result ≡ mark bench.now.n stretch optimum (parse bench.now.n bench.now.words.now).forward (parse bench.now.n bench.now.words.now).backward v }
-{
-    let from = bench.half(Side::Forward).entry(v);
-    let to = bench.half(Side::Backward).entry(v);
-    shape::mark_of(stretch, optimum, from.state, to.state, from.dist, to.dist)
-}
-
 // Rule 4 over all crossings. Stretch and optimum are read before the loop, which writes into the same words.
 #[tactic(auto, using(shape::proofs::Marks::marks_next, shape::proofs::Marks::marks_end), unfolding(shape::specs::Bench::parse))]
 pub fn mark_all(bench: &mut [u32], n: usize)
@@ -43,7 +31,7 @@ pub fn mark_all(bench: &mut [u32], n: usize)
     let optimum = bench[5];
     let marks = shape::marks_at(n);
     for v in 1..=n {
-        let mark = mark_at(&Bench { words: bench, n }, stretch, optimum, v);
+        let mark = Bench { words: bench, n }.halves().mark(stretch, optimum, v);
         bench[marks + (v - 1)] = mark;
     }
 }

@@ -2,13 +2,36 @@
 #![tactic(auto)]
 
 ghost use Rattle.std.specs.Prelude.{◌≡◌, ◌≤◌, length};
+ghost use Rattle.limits.specs.Limits.{Between};
 ghost use Rattle.shape.specs.Bench.{half, root, half_at, marks_at, bench_words, parse};
-ghost use Rattle.shape.specs.Rules.{within as within_of, beyond as beyond_of, found as found_of, mark_by};
+ghost use Rattle.shape.specs.Rules.{within as within_of, beyond as beyond_of, found as found_of, mark};
 
 use half::{Half, SETTLED};
 // An unknown optimum is a word of the lent layout, which may also hold a damaged one, so it stays that word and is no Option.
 use limits::UNKNOWN;
 use map::Side;
+
+// The two halves of a bench as they are lent to be read.
+#[derive(Clone, Copy)]
+pub struct Halves<'a> {
+    pub forward: Half<'a>,
+    pub backward: Half<'a>,
+    ghost same_n: { backward.n ≡ forward.n },
+}
+
+impl<'a> Halves<'a> {
+    // Rule 4 for crossing v.
+    #[tactic(auto, unfolding(crate::specs::Rules::mark, crate::specs::Rules::known))]
+    pub fn mark(&self, stretch: u32, optimum: u32, v: usize) -> u32
+        requires { Between 1 self.now.forward.n v }
+        ensures { result ≡ mark self.now.forward.n stretch optimum self.now.forward.words.now self.now.backward.words.now v }
+    {
+        let from = self.forward.entry(v);
+        let to = self.backward.entry(v);
+        let both = from.state == SETTLED && to.state == SETTLED;
+        u32::from(optimum != UNKNOWN && both && within(stretch, optimum, from.dist, to.dist))
+    }
+}
 
 // A bench for n crossings as it is lent to be read.
 #[derive(Clone, Copy)]
@@ -31,6 +54,18 @@ impl<'a> Bench<'a> {
         Half {
             words: &self.words[a..e],
             n: self.n,
+        }
+    }
+
+    // Both halves.
+    pub fn halves(&self) -> Halves<'a>
+        ensures forward { result.forward.words.now ≡ (parse self.now.n self.now.words.now).forward }
+        ensures backward { result.backward.words.now ≡ (parse self.now.n self.now.words.now).backward }
+        ensures n { result.forward.n ≡ self.now.n }
+    {
+        Halves {
+            forward: self.half(Side::Forward),
+            backward: self.half(Side::Backward),
         }
     }
 
@@ -122,13 +157,4 @@ pub fn found(goal: u32, x: u32, d: u32, optimum: u32) -> u32
     } else {
         optimum
     }
-}
-
-// Rule 4 from the states s and t and the distances a and b of a crossing in the two halves.
-#[tactic(auto, unfolding(crate::specs::Rules::known))]
-pub fn mark_of(stretch: u32, optimum: u32, s: u32, t: u32, a: u32, b: u32) -> u32
-    ensures { result ≡ mark_by stretch optimum s t a b }
-{
-    let both = s == SETTLED && t == SETTLED;
-    u32::from(optimum != UNKNOWN && both && within(stretch, optimum, a, b))
 }

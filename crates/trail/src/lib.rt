@@ -11,6 +11,7 @@ ghost use Rattle.trail.specs.Trail.{after as after_of, trail, Settled, Trails as
 use half::{Entry, Half, SETTLED};
 use limits::Refusal;
 use map::{Roads, Side};
+use shape::Halves;
 
 // The root is settled at distance 0 with link number 0.
 #[tactic(auto, unfolding(crate::specs::Sound::root_fault))]
@@ -85,21 +86,18 @@ pub fn check_sound(roads: &Roads, half: &Half, side: Side, root: u32) -> Result<
 }
 
 // The mark of v is what rule 4 gives.
-#[tactic(auto, unfolding(crate::specs::Sound::mark_fault, shape::specs::Rules::mark))]
+#[tactic(auto, unfolding(crate::specs::Sound::mark_fault))]
 fn check_mark(
-    f: &Half,
-    g: &Half,
+    halves: &Halves,
     marks: &[u32],
     stretch: u32,
     optimum: u32,
     v: usize,
 ) -> Result<(), Refusal>
-    requires { (g.now.n ≡ f.now.n) × (length marks.now ≡ f.now.n) × Between 1 f.now.n v }
-    ensures { fault_of result ≡ mark_fault f.now.n stretch optimum f.now.words.now g.now.words.now marks.now v }
+    requires { (length marks.now ≡ halves.now.forward.n) × Between 1 halves.now.forward.n v }
+    ensures { fault_of result ≡ mark_fault halves.now.forward.n stretch optimum halves.now.forward.words.now halves.now.backward.words.now marks.now v }
 {
-    let a = f.entry(v);
-    let b = g.entry(v);
-    if marks[v - 1] != shape::mark_of(stretch, optimum, a.state, b.state, a.dist, b.dist) {
+    if marks[v - 1] != halves.mark(stretch, optimum, v) {
         return Err(Refusal::Trails);
     }
     Ok(())
@@ -108,16 +106,16 @@ fn check_mark(
 // The marks are what rule 4 gives.
 #[tactic(auto, unfolding(crate::specs::Sound::marks_fault))]
 pub fn check_marks(
-    f: &Half,
-    g: &Half,
+    halves: &Halves,
     marks: &[u32],
     stretch: u32,
     optimum: u32,
 ) -> Result<(), Refusal>
-    requires { (g.now.n ≡ f.now.n) × (length marks.now ≡ f.now.n) }
-    ensures { fault_of result ≡ marks_fault f.now.n stretch optimum f.now.words.now g.now.words.now marks.now }
+    requires { length marks.now ≡ halves.now.forward.n }
+    ensures { fault_of result ≡ marks_fault halves.now.forward.n stretch optimum halves.now.forward.words.now halves.now.backward.words.now marks.now }
 {
-    if limits::all_pass(f.n, |v| check_mark(f, g, marks, stretch, optimum, v)) {
+    let check = |v| check_mark(halves, marks, stretch, optimum, v);
+    if limits::all_pass(halves.forward.n, check) {
         return Ok(());
     }
     Err(Refusal::Trails)

@@ -1,13 +1,13 @@
--- `route::fill_mask` meets its contract. Assumes nothing.
+-- `route::BothTrails::fill_mask` meets its contract. Assumes nothing.
 use Rattle.std.proofs.Common.{◌≡◌, ◌+◌, ◌-◌, refl, sym, ◌∙◌, arith}
 use lib.ListN.{length-set}
 use Rattle.route.specs.Area.{mask_in}
 use Rattle.route.proofs.Writing.{fill_step, fill_end}
-use Rattle.route.proofs.fill_mask.Goals as goal
+use Rattle.route.proofs.BothTrails.fill_mask.Goals as goal
 
 pub loop-x-init : goal.loop-x-init
 unfolding mask_in
-loop-x-init c = let e : c.args.f.now.n + 1 - 1 ≡ c.args.f.now.n = omega arith in (omega arith, refl, rw e)
+loop-x-init c = let n = c.args.self.now.halves.forward.n in let e : n + 1 - 1 ≡ n = omega arith in (omega arith, refl, rw e)
 
 pub loop-x-preserved : goal.loop-x-preserved
 loop-x-preserved c =
