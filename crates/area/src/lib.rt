@@ -108,6 +108,31 @@ impl<'a, 'b> Finished<'a, 'b> {
             halves: self.lent.bench.halves(),
         }
     }
+
+    // Fills the first n bytes of the mask.
+    pub fn fill_area(&self, locality: u32, mask: &mut [u8])
+        requires { self.now.lent.roads.n ≤ length mask.old }
+        ensures { mask.new ≡ sets mask.old 0 (mask_of self.now.lent.roads.map.now locality (parse self.now.lent.roads.n self.now.lent.bench.words.now)) }
+    {
+        let marks = self.lent.bench.marks();
+        self.trails().fill_mask(marks, locality, mask);
+    }
+
+    // The length of the route of a marked crossing.
+    fn route_length(&self, crossing: u32) -> usize
+        requires { Between 1 self.now.lent.roads.n crossing × (get_or (parse self.now.lent.roads.n self.now.lent.bench.words.now).marks (crossing - 1) 0 ≡ 0 → ⊥) }
+        ensures { result ≡ length (route_of self.now.lent.roads.map.now (parse self.now.lent.roads.n self.now.lent.bench.words.now) crossing) }
+    {
+        self.trails().route_length(crossing)
+    }
+
+    // Writes the route over the first words of the buffer; answers its length.
+    pub fn write_route(&self, crossing: u32, buffer: &mut [u32]) -> usize
+        requires { Between 1 self.now.lent.roads.n crossing × (asked_fault self.now.lent.roads.map.now (parse self.now.lent.roads.n self.now.lent.bench.words.now) crossing (length buffer.old) ≡ 0) }
+        ensures { (result ≡ length (route_of self.now.lent.roads.map.now (parse self.now.lent.roads.n self.now.lent.bench.words.now) crossing)) × (buffer.new ≡ sets buffer.old 0 (route_of self.now.lent.roads.map.now (parse self.now.lent.roads.n self.now.lent.bench.words.now) crossing)) }
+    {
+        self.trails().write_route(crossing, buffer)
+    }
 }
 
 // ---- the area
@@ -130,23 +155,7 @@ pub fn check_area<'a, 'b>(
     Finished::new(lent)
 }
 
-// Fills the first n bytes of the mask.
-pub fn fill_area(finished: &Finished, locality: u32, mask: &mut [u8])
-    requires { finished.now.lent.roads.n ≤ length mask.old }
-    ensures { mask.new ≡ sets mask.old 0 (mask_of finished.now.lent.roads.map.now locality (parse finished.now.lent.roads.n finished.now.lent.bench.words.now)) }
-{
-    let marks = finished.lent.bench.marks();
-    finished.trails().fill_mask(marks, locality, mask);
-}
-
 // ---- the route of an asked crossing
-
-fn route_length(finished: &Finished, crossing: u32) -> usize
-    requires { Between 1 finished.now.lent.roads.n crossing × (get_or (parse finished.now.lent.roads.n finished.now.lent.bench.words.now).marks (crossing - 1) 0 ≡ 0 → ⊥) }
-    ensures { result ≡ length (route_of finished.now.lent.roads.map.now (parse finished.now.lent.roads.n finished.now.lent.bench.words.now) crossing) }
-{
-    finished.trails().route_length(crossing)
-}
 
 // The asked crossing is marked, and its route has room.
 #[tactic(auto, using(limits::proofs::Refused::checks, crate::proofs::Routes::unmarked), unfolding(crate::specs::Finished::asked_fault))]
@@ -157,7 +166,7 @@ fn check_asked(finished: &Finished, crossing: u32, room: usize) -> Result<(), Re
     if finished.lent.bench.marks()[crossing as usize - 1] == 0 {
         return Err(Refusal::Unmarked);
     }
-    limits::check_room(route_length(finished, crossing), room)
+    limits::check_room(finished.route_length(crossing), room)
 }
 
 // What is lent to a route call whose buffer has room for so many words.
@@ -177,12 +186,4 @@ pub fn check_route<'a, 'b>(
     let finished = Finished::new(lent)?;
     check_asked(&finished, crossing, room)?;
     Ok(finished)
-}
-
-// Writes the route over the first words of the buffer; answers its length.
-pub fn write_route(finished: &Finished, crossing: u32, buffer: &mut [u32]) -> usize
-    requires { Between 1 finished.now.lent.roads.n crossing × (asked_fault finished.now.lent.roads.map.now (parse finished.now.lent.roads.n finished.now.lent.bench.words.now) crossing (length buffer.old) ≡ 0) }
-    ensures { (result ≡ length (route_of finished.now.lent.roads.map.now (parse finished.now.lent.roads.n finished.now.lent.bench.words.now) crossing)) × (buffer.new ≡ sets buffer.old 0 (route_of finished.now.lent.roads.map.now (parse finished.now.lent.roads.n finished.now.lent.bench.words.now) crossing)) }
-{
-    finished.trails().write_route(crossing, buffer)
 }

@@ -142,7 +142,7 @@ pub fn area(
     ensures mask { mask.new ≡ area_mask map.now n m bench.now locality mask.old }
 {
     let finished = area::check_area(map, n, m, bench, locality, mask.len())?;
-    area::fill_area(&finished, locality, mask);
+    finished.fill_area(locality, mask);
     Ok(())
 }
 
@@ -162,7 +162,7 @@ pub fn fill_route(
     ensures buffer { buffer.new ≡ route_buffer map.now n m bench.now crossing buffer.old }
 {
     let finished = area::check_route(map, n, m, bench, crossing, buffer.len())?;
-    let length = area::write_route(&finished, crossing, buffer);
+    let length = finished.write_route(crossing, buffer);
     Ok(length as u32)
 }
 
