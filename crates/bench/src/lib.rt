@@ -110,7 +110,7 @@ pub fn take_turn(
     Ok(Turn::Settled(x as u32, d))
 }
 
-// One turn of the forward half.
+// One turn of the forward half. The C interface has a call for each half, which names no side.
 pub fn forward(map: &[u32], n: u32, m: u32, bench: &mut [u32]) -> Result<Turn, Refusal>
     ensures answer { said_turn result ≡ turn_said Forward map.now n m bench.old }
     ensures bench { bench.new ≡ turn_words Forward map.now n m bench.old }

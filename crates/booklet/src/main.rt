@@ -150,6 +150,7 @@ fn survey(
     ensures room { IfOk result (λ n. HasRoom n bench.new mask.new) }
 {
     let size = text::read(text, map)?;
+    // `map_err(outside)?` in place of the arms was tried: the check knows nothing of what a named function makes there.
     match find_area(order, map, size.n, size.m, bench, mask) {
         Ok(()) => Ok(size.n),
         Err(refusal) => Err(outside(refusal)),

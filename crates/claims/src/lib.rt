@@ -8,7 +8,7 @@ ghost use Rattle.demands.specs.Calls.{side_of, turns_words, mixture_words};
 use limits::Refusal;
 use map::Side;
 
-// The half that a byte of a schedule stands for: forward for 0, else backward.
+// The half that a byte of a schedule stands for: forward for 0, else backward. Any byte will do, so that no schedule is refused.
 fn side_of(byte: u8) -> Side
     ensures { result ≡ side_of byte }
 {

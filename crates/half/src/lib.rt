@@ -9,14 +9,14 @@ ghost use Rattle.half.specs.Half.{or_zero, ceiling, entry as entry_of, put, open
 use limits::{CEILING, UNKNOWN};
 use map::{Roads, Side};
 
-// The states of a crossing: words and no enum, since a damaged bench may hold any word there, and an entry is to tell which.
+// The states of a crossing: words and no enum, as the C interface lends them. A damaged bench may hold any word there, and an entry is to tell which.
 pub const UNSEEN: u32 = 0;
 
 pub const OPEN: u32 = 1;
 
 pub const SETTLED: u32 = 2;
 
-// What a half holds of one crossing.
+// What a half holds of one crossing, in the words that the C interface lends: link number 0 stands for none.
 #[derive(Clone, Copy, Debug, PartialEq, Eq)]
 pub struct Entry {
     pub dist: u32,
@@ -117,16 +117,13 @@ pub fn near(map: &[u32], side: Side, k: usize) -> u32
     }
 }
 
-// The end of link k that a side comes to.
-#[tactic(auto, unfolding(map::specs::Walk::far, map::specs::Map::tail, map::specs::Map::head))]
+// The end of link k that a side comes to: the one that the other side leaves.
+#[tactic(auto, using(map::proofs::Walks::near_other))]
 pub fn far(map: &[u32], side: Side, k: usize) -> u32
     requires { (1 ≤ k) × (3 * k ≤ length map.now) }
     ensures { result ≡ far_of side map.now k }
 {
-    match side {
-        Side::Forward => map[3 * k - 2],
-        Side::Backward => map[3 * k - 3],
-    }
+    near(map, side.other(), k)
 }
 
 // What an unsettled crossing holds after link number k offers it a sum up to the ceiling.

@@ -103,7 +103,7 @@ impl<'a> BothTrails<'a> {
         }
     }
 
-    // What the mask holds of x.
+    // What the mask holds of x: a byte, as the C interface lends the mask.
     #[tactic(auto, unfolding(crate::specs::Area::mask_at))]
     fn mask_at(&self, marks: &[u32], locality: u32, x: u32) -> u8
         requires { Walkable self.now.map.now self.now.halves.forward.n self.now.halves.forward.words.now self.now.halves.backward.words.now marks.now × Between 1 self.now.halves.forward.n x }

@@ -1,4 +1,4 @@
-// The layout of a bench, and rules 1, 3 and 4 of a turn on single words, with the one comparison with stretch times optimum.
+// The layout of a bench, and rules 1, 3 and 4 of a turn for one crossing, with the one comparison with stretch times optimum.
 #![tactic(auto)]
 
 ghost use Rattle.std.specs.Prelude.{◌≡◌, ◌≤◌, length};
