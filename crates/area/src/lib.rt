@@ -14,6 +14,7 @@ use limits::Refusal;
 use map::Side;
 use route::BothTrails;
 use shaped::Shaped;
+use trail::ShapedHalf;
 
 // ---- a finished bench
 
@@ -57,8 +58,12 @@ fn check_marks(lent: &Shaped) -> Result<(), Refusal>
 fn check_half(lent: &Shaped, side: Side) -> Result<(), Refusal>
     ensures { fault_of result ≡ sound_fault side lent.now.roads.map.now lent.now.roads.n lent.now.roads.m (root side (parse lent.now.roads.n lent.now.bench.words.now)) (half side (parse lent.now.roads.n lent.now.bench.words.now)) }
 {
-    let bench = &lent.bench;
-    trail::check_sound(&lent.roads, &bench.half(side), side, bench.root(side))
+    let shaped = ShapedHalf {
+        roads: lent.roads,
+        half: lent.bench.half(side),
+        side,
+    };
+    shaped.check_sound(lent.bench.root(side))
 }
 
 // Trails and marks are sound.

@@ -1,9 +1,9 @@
--- That a bench is well shaped has one proof at most, as a struct's fact needs. Assumes nothing.
-use Rattle.std.proofs.Common.{ℕ, ◌≡◌, ◌≤◌, ◌⊎◌, inl, inr, ap, arith}
+-- That a half or a bench is well shaped has one proof at most, as a struct's fact needs. Assumes nothing.
+use Rattle.std.proofs.Common.{ℕ, List, ◌≡◌, ◌≤◌, ◌⊎◌, inl, inr, ap, arith}
 use Rattle.std.proofs.Math.Bridge.{le_prop}
 use Rattle.std.proofs.Math.Nat.{ℕ_set}
 use Rattle.limits.specs.Limits.{Between}
-use Rattle.half.specs.Half.{unknown, ceiling, Shaped, unseen, seen}
+use Rattle.half.specs.Half.{unknown, ceiling, Shaped, unseen, seen, ShapedHalf}
 use Rattle.half.specs.declared.Entry.{Entry}
 use Rattle.shape.specs.Bench.{Bench, WellShaped}
 
@@ -24,6 +24,9 @@ shaped_prop (seen s d k) (seen t f l) = λ j. seen (between_prop s t j) (le_prop
 
 optimum_prop : {o : ℕ} → IsProp ((o ≡ unknown) ⊎ (o ≤ ceiling))
 optimum_prop {o} = either_prop (λ e l. omega arith) (ℕ_set o unknown) le_prop
+
+pub shaped_half_prop : {n m : ℕ} {h : List ℕ} → IsProp (ShapedHalf n m h)
+shaped_half_prop = hlevel (ℕ_set, shaped_prop)
 
 pub well_shaped_prop : {n m : ℕ} {b : Bench} → IsProp (WellShaped n m b)
 well_shaped_prop = hlevel (le_prop, ℕ_set, shaped_prop, optimum_prop)

@@ -4,7 +4,8 @@
 ghost use Rattle.std.specs.Prelude.{◌≡◌, ◌*◌, length, IfSome};
 ghost use Rattle.limits.specs.Limits.{Between};
 ghost use Rattle.limits.specs.Refusals.{fault_of};
-ghost use Rattle.half.specs.Half.{or_zero, ShapedHalf};
+ghost use Rattle.half.specs.Half.{or_zero, ShapedHalf as IsShaped};
+ghost use Rattle.shape.proofs.Props.{shaped_half_prop};
 ghost use Rattle.trail.specs.Sound.{root_fault, tight_fault, named_fault, sound_at, sound_fault, mark_fault, marks_fault};
 ghost use Rattle.trail.specs.Trail.{after as after_of, trail, Settled, Trails as CanWalk};
 
@@ -24,65 +25,69 @@ fn check_root(e: Entry) -> Result<(), Refusal>
     Ok(())
 }
 
-// Link k comes to v, settled at distance d, from a settled crossing, whose distance and the cost are d.
-#[tactic(auto, unfolding(crate::specs::Sound::tight_fault, map::specs::Map::cost))]
-fn check_tight(
-    roads: &Roads,
-    half: &Half,
-    side: Side,
-    v: usize,
-    d: u32,
-    k: usize,
-) -> Result<(), Refusal>
-    requires { (half.now.n ≡ roads.now.n) × ShapedHalf roads.now.n roads.now.m half.now.words.now × Between 1 roads.now.m k }
-    ensures { fault_of result ≡ tight_fault side roads.now.map.now roads.now.n half.now.words.now v d k }
-{
-    let end = half.entry(half::near(roads.map, side, k) as usize);
-    if half::far(roads.map, side, k) as usize != v
-        || end.state != SETTLED
-        || end.dist + roads.map[3 * k - 1] != d
+// The half of a side, well shaped for the roads.
+#[derive(Clone, Copy)]
+pub struct ShapedHalf<'a> {
+    pub roads: Roads<'a>,
+    pub half: Half<'a>,
+    pub side: Side,
+    ghost same_n: { half.n ≡ roads.n },
+    ghost shaped: { IsShaped roads.n roads.m half.words.now } by { shaped_half_prop },
+}
+
+impl<'a> ShapedHalf<'a> {
+    // Link k comes to v, settled at distance d, from a settled crossing, whose distance and the cost are d.
+    #[tactic(auto, unfolding(crate::specs::Sound::tight_fault, map::specs::Map::cost))]
+    fn check_tight(&self, v: usize, d: u32, k: usize) -> Result<(), Refusal>
+        requires { Between 1 self.now.roads.m k }
+        ensures { fault_of result ≡ tight_fault self.now.side self.now.roads.map.now self.now.roads.n self.now.half.words.now v d k }
     {
-        return Err(Refusal::Trails);
+        let map = self.roads.map;
+        let end = self.half.entry(half::near(map, self.side, k) as usize);
+        if half::far(map, self.side, k) as usize != v
+            || end.state != SETTLED
+            || end.dist + map[3 * k - 1] != d
+        {
+            return Err(Refusal::Trails);
+        }
+        Ok(())
     }
-    Ok(())
-}
 
-// The link number of v, settled with these words, names such a link.
-#[tactic(auto, using(crate::proofs::Checks::named_refused, crate::proofs::Checks::named_in), unfolding(crate::specs::Sound::named_fault))]
-fn check_named(roads: &Roads, half: &Half, side: Side, v: usize, e: Entry) -> Result<(), Refusal>
-    requires { (half.now.n ≡ roads.now.n) × ShapedHalf roads.now.n roads.now.m half.now.words.now }
-    ensures { fault_of result ≡ named_fault side roads.now.map.now roads.now.n roads.now.m half.now.words.now v e.dist e.link }
-{
-    limits::check_range(1, roads.m, Refusal::Trails, e.link)?;
-    check_tight(roads, half, side, v, e.dist, e.link as usize)
-}
+    // The link number of v, settled with these words, names such a link.
+    #[tactic(auto, using(crate::proofs::Checks::named_refused, crate::proofs::Checks::named_in), unfolding(crate::specs::Sound::named_fault))]
+    fn check_named(&self, v: usize, e: Entry) -> Result<(), Refusal>
+        ensures { fault_of result ≡ named_fault self.now.side self.now.roads.map.now self.now.roads.n self.now.roads.m self.now.half.words.now v e.dist e.link }
+    {
+        limits::check_range(1, self.roads.m, Refusal::Trails, e.link)?;
+        self.check_tight(v, e.dist, e.link as usize)
+    }
 
-// What a half holds of v is sound.
-#[tactic(auto, unfolding(crate::specs::Sound::sound_at))]
-fn check_at(roads: &Roads, half: &Half, side: Side, root: u32, v: usize) -> Result<(), Refusal>
-    requires { (half.now.n ≡ roads.now.n) × ShapedHalf roads.now.n roads.now.m half.now.words.now × Between 1 roads.now.n v }
-    ensures { fault_of result ≡ sound_at side roads.now.map.now roads.now.n roads.now.m root half.now.words.now v }
-{
-    let e = half.entry(v);
-    if v == root as usize {
-        return check_root(e);
+    // What the half holds of v is sound.
+    #[tactic(auto, unfolding(crate::specs::Sound::sound_at))]
+    fn check_at(&self, root: u32, v: usize) -> Result<(), Refusal>
+        requires { Between 1 self.now.roads.n v }
+        ensures { fault_of result ≡ sound_at self.now.side self.now.roads.map.now self.now.roads.n self.now.roads.m root self.now.half.words.now v }
+    {
+        let e = self.half.entry(v);
+        if v == root as usize {
+            return check_root(e);
+        }
+        if e.state != SETTLED {
+            return Ok(());
+        }
+        self.check_named(v, e)
     }
-    if e.state != SETTLED {
-        return Ok(());
-    }
-    check_named(roads, half, side, v, e)
-}
 
-// The trails of a half are sound.
-#[tactic(auto, unfolding(crate::specs::Sound::sound_fault))]
-pub fn check_sound(roads: &Roads, half: &Half, side: Side, root: u32) -> Result<(), Refusal>
-    requires { (half.now.n ≡ roads.now.n) × ShapedHalf roads.now.n roads.now.m half.now.words.now }
-    ensures { fault_of result ≡ sound_fault side roads.now.map.now roads.now.n roads.now.m root half.now.words.now }
-{
-    if limits::all_pass(half.n, |v| check_at(roads, half, side, root, v)) {
-        return Ok(());
+    // The trails of the half are sound.
+    #[tactic(auto, unfolding(crate::specs::Sound::sound_fault))]
+    pub fn check_sound(&self, root: u32) -> Result<(), Refusal>
+        ensures { fault_of result ≡ sound_fault self.now.side self.now.roads.map.now self.now.roads.n self.now.roads.m root self.now.half.words.now }
+    {
+        if limits::all_pass(self.half.n, |v| self.check_at(root, v)) {
+            return Ok(());
+        }
+        Err(Refusal::Trails)
     }
-    Err(Refusal::Trails)
 }
 
 // The mark of v is what rule 4 gives.
