@@ -1,5 +1,5 @@
 -- What the calls say where they refuse and where they do not, and what opening and a turn have then. Assumes nothing.
-use Rattle.std.proofs.Common.{◌≡◌, ℕ, ◌≤◌, Bool, true, false, List, [], ◌∷◌, length, refl, sym, ap, ◌∙◌, arith}
+use Rattle.std.proofs.Common.{◌≡◌, ℕ, ◌≤◌, true, false, List, [], ◌∷◌, length, refl, sym, ap, ◌∙◌, arith}
 use borrow.Author.Tests.{eq-eqb, ne_eqb}
 use Rattle.limits.specs.Limits.{Between}
 use Rattle.limits.specs.Refusals.{number_of}
@@ -10,13 +10,11 @@ use Rattle.limits.proofs.Laws.{or_else_none, outside_none, room_none}
 use Rattle.map.specs.Map.{Valid}
 use Rattle.map.specs.declared.Side.{Side}
 use Rattle.map.proofs.Laws.{fault_valid}
-use Rattle.half.specs.Half.{dist, nearest_open}
-use Rattle.rules.proofs.Laws.{next_is, done_none, done_by}
-use Rattle.shape.specs.Bench.{half, bench_words, words, parse, WellShaped}
-use Rattle.shape.specs.Rules.{next, beyond, done, settled_by, turned, turn_told}
+use Rattle.half.specs.Half.{dist}
+use Rattle.shape.specs.Bench.{half, bench_words, words, parse}
+use Rattle.shape.specs.Rules.{next, done, settled_by, turned, turn_told}
 use Rattle.shaped.specs.Lent.{lent_fault}
 use Rattle.shaped.proofs.Lent.{lent_ready}
-use Rattle.area.proofs.Laws.{first_word}
 use Rattle.shape.proofs.Rounds.{words_parse}
 use Rattle.shape.proofs.Turns.{turned_done, turned_settles}
 use Rattle.bench.specs.Calls.{judged, order_fault, open_fault, turn_fault, turn_said, turn_words}
@@ -73,25 +71,6 @@ open_order map n m start target stretch x h =
       target_in = outside_none 1 n 4 target (λ z. omega arith) (or_else_none _ _ c.1).0;
       room = room_none _ _ b.1;
     }
-
--- ---- the crossing that a turn settles
-
--- of the half as it is lent on
-module _ (s : Side) (y : List ℕ) {n m i k : ℕ} {h : List ℕ} (shaped : WellShaped n m (parse n y)) (same : i ≡ n) (size : k ≡ i) (part : h ≡ half s (parse i y)) where
-  nearest : nearest_open k h ≡ nearest_open n (half s (parse n y))
-  nearest = rw (size, part, same) refl
-
-  pub next_none : 0 ≡ nearest_open k h → done s (parse n y) ≡ true
-  next_none e = done_none s n y (e ∙ nearest) (first_word n m y shaped) refl
-
-  module _ {x : ℕ} (e : x ≡ nearest_open k h) (inside : Between 1 k x) where
-    pub next_found : (Between 1 n x) × (next s (parse n y) ≡ x)
-    next_found = (rw (← same, ← size) inside, next_is s n y (e ∙ nearest) (first_word n m y shaped))
-
-    pub next_beyond : {stretch optimum d : ℕ} {t : Bool} → stretch ≡ (parse i y).stretch → optimum ≡ (parse i y).optimum → d ≡ dist h x → t ≡ beyond stretch optimum d → done s (parse n y) ≡ t
-    unfolding parse
-    next_beyond p q f g =
-        done_by s n y (e ∙ nearest) (first_word n m y shaped) (λ z. omega (arith, inside.least)) (f ∙ rw (part, same) refl) (g ∙ rw (p, q) refl)
 
 -- ---- one turn
 

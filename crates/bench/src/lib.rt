@@ -1,12 +1,9 @@
 // The calls on a bench: its opening and its turns, its area and its routes.
 #![tactic(auto)]
 
-ghost use Rattle.std.specs.Prelude.{◌≡◌, true, false, length, IfSome, IfNone};
-ghost use Rattle.limits.specs.Limits.{Between};
+ghost use Rattle.std.specs.Prelude.{◌≡◌, length};
 ghost use Rattle.limits.specs.Refusals.{fault_of};
 ghost use Rattle.map.specs.declared.Side.TheVariants.{Forward, Backward};
-ghost use Rattle.shape.specs.Bench.{parse};
-ghost use Rattle.shape.specs.Rules.{next as next_of, done as done_of};
 ghost use Rattle.area.specs.Finished.{route_fault};
 ghost use Rattle.bench.specs.Calls.{said_opening, order_fault, open_fault, open_said, open_words, said_turn, turn_said, turn_words};
 ghost use Rattle.bench.specs.Areas.{said_filling, area_said, area_mask};
@@ -14,7 +11,6 @@ ghost use Rattle.bench.specs.Routes.{said_routing, route_said, route_part, route
 
 use limits::Refusal;
 use map::Side;
-use shaped::Shaped;
 
 // What a turn answers: the crossing settled and its distance, or that the half is done.
 #[derive(Clone, Copy, Debug, PartialEq, Eq)]
@@ -73,22 +69,8 @@ pub fn open_bench(
 
 // ---- one turn
 
-// The crossing that a half settles next, or none where the half is done.
-fn next(lent: &Shaped, side: Side) -> Option<usize>
-    ensures none { IfNone result (done_of side (parse lent.now.roads.n lent.now.bench.words.now) ≡ true) }
-    ensures some { IfSome result (λ x. Between 1 lent.now.roads.n x × (done_of side (parse lent.now.roads.n lent.now.bench.words.now) ≡ false) × (next_of side (parse lent.now.roads.n lent.now.bench.words.now) ≡ x)) }
-{
-    let bench = &lent.bench;
-    let half = bench.half(side);
-    let x = half.nearest_open()?;
-    if shape::beyond(bench.stretch(), bench.optimum(), half.entry(x).dist) {
-        return None;
-    }
-    Some(x)
-}
-
 // One turn of the half of a side.
-#[tactic(auto, using(crate::proofs::Laws::answers), unfolding(crate::specs::Calls::turn_said, crate::specs::Calls::turn_words, crate::specs::Calls::turn_fault))]
+#[tactic(auto, using(crate::proofs::Laws::answers, area::proofs::Laws::first_word), unfolding(crate::specs::Calls::turn_said, crate::specs::Calls::turn_words, crate::specs::Calls::turn_fault))]
 pub fn take_turn(
     map: &[u32],
     n: u32,
@@ -100,7 +82,7 @@ pub fn take_turn(
     ensures bench { bench.new ≡ turn_words side map.now n m bench.old }
 {
     let lent = shaped::check_lent(map, n, m, Ok(()), bench)?;
-    let Some(x) = next(&lent, side) else {
+    let Some(x) = rules::next(&lent.bench, side) else {
         return Ok(Turn::Done);
     };
     let d = lent.bench.half(side).entry(x).dist;

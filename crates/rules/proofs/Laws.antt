@@ -1,5 +1,5 @@
 -- Rule 1 on the words of a bench: the next crossing, and when the half is done. Assumes nothing.
-use mathlib.Core.Path.{◌≡◌, sym, ap, ◌∙◌}
+use mathlib.Core.Path.{◌≡◌, refl, sym, ap, ◌∙◌}
 use mathlib.Core.Bool.{Bool, true}
 use mathlib.Core.List.{List}
 use Prim.Native.Nat.{ℕ}
@@ -19,6 +19,6 @@ module _ (s : Side) (n : ℕ) (y : List ℕ) {x : ℕ} (e : x ≡ nearest_open n
   unfolding done
   done_none z = rw (next_is, eq-eqb x 0 z)
 
-  pub done_by : (x ≡ 0 → ⊥) → {d : ℕ} {t : Bool} → d ≡ dist (half s (parse n y)) x → t ≡ beyond (get_or y 4 0) (get_or y 5 0) d → done s (parse n y) ≡ t
-  unfolding done parse
-  done_by z p q = rw next_is (simp (ne_eqb x 0 z) (sym (q ∙ ap (beyond (get_or y 4 0) (get_or y 5 0)) p)))
+  pub done_by : (x ≡ 0 → ⊥) → {stretch optimum d : ℕ} {t : Bool} → stretch ≡ (parse n y).stretch → optimum ≡ (parse n y).optimum → d ≡ dist (half s (parse n y)) x → t ≡ beyond stretch optimum d → done s (parse n y) ≡ t
+  unfolding done
+  done_by z p q r f = rw next_is (simp (ne_eqb x 0 z) (sym (f ∙ rw (p, q, r) refl)))
