@@ -1,7 +1,7 @@
 // The area and the routes of a finished bench: what is refused, and what is filled.
 #![tactic(auto)]
 
-ghost use Rattle.std.specs.Prelude.{◌≡◌, ℕ, ◌-◌, ◌≤◌, length, get_or, IfOk};
+ghost use Rattle.std.specs.Prelude.{◌≡◌, ◌-◌, ◌≤◌, length, get_or, IfOk};
 ghost use Rattle.std.proofs.lemmas.List.Edits.{sets};
 ghost use Rattle.limits.specs.Limits.{Between};
 ghost use Rattle.limits.specs.Refusals.{fault_of};
@@ -63,7 +63,7 @@ fn check_half(lent: &Shaped, side: Side) -> Result<(), Refusal>
         half: lent.bench.half(side),
         side,
     };
-    shaped.check_sound(lent.bench.root(side))
+    shaped.check_sound(lent.bench.root(side) as usize)
 }
 
 // Trails and marks are sound.

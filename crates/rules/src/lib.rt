@@ -38,8 +38,9 @@ pub fn mark_all(bench: &mut [u32], n: usize)
     requires { (n ≤ 4096) × (bench_words n ≤ length bench.old) × (get_or bench.old 0 0 ≡ n) }
     ensures { bench.new ≡ words (remarked (parse n bench.old)) }
 {
-    let stretch = bench[4];
-    let optimum = bench[5];
+    let before = Bench { words: bench, n };
+    let stretch = before.stretch();
+    let optimum = before.optimum();
     let marks = shape::marks_at(n);
     for v in 1..=n {
         let mark = Bench { words: bench, n }.halves().mark(stretch, optimum, v);

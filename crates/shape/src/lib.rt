@@ -4,7 +4,7 @@
 ghost use Rattle.std.specs.Prelude.{◌≡◌, ◌≤◌, length};
 ghost use Rattle.limits.specs.Limits.{Between};
 ghost use Rattle.shape.specs.Bench.{half, root, half_at, marks_at, bench_words, parse};
-ghost use Rattle.shape.specs.Rules.{within as within_of, beyond as beyond_of, found as found_of, mark};
+ghost use Rattle.shape.specs.Rules.{within as within_of, beyond as beyond_of, found as found_of, mark_by, mark};
 
 use half::{Half, SETTLED};
 // An unknown optimum is a word of the lent layout, which may also hold a damaged one, so it stays that word and is no Option.
@@ -21,15 +21,14 @@ pub struct Halves<'a> {
 
 impl<'a> Halves<'a> {
     // Rule 4 for crossing v.
-    #[tactic(auto, unfolding(crate::specs::Rules::mark, crate::specs::Rules::known))]
+    #[tactic(auto, unfolding(crate::specs::Rules::mark))]
     pub fn mark(&self, stretch: u32, optimum: u32, v: usize) -> u32
         requires { Between 1 self.now.forward.n v }
         ensures { result ≡ mark self.now.forward.n stretch optimum self.now.forward.words.now self.now.backward.words.now v }
     {
         let from = self.forward.entry(v);
         let to = self.backward.entry(v);
-        let both = from.state == SETTLED && to.state == SETTLED;
-        u32::from(optimum != UNKNOWN && both && within(stretch, optimum, from.dist, to.dist))
+        mark_of(stretch, optimum, from.state, to.state, from.dist, to.dist)
     }
 }
 
@@ -157,4 +156,13 @@ pub fn found(goal: u32, x: u32, d: u32, optimum: u32) -> u32
     } else {
         optimum
     }
+}
+
+// Rule 4 from the states s and t and the distances a and b of a crossing in the two halves.
+#[tactic(auto, unfolding(crate::specs::Rules::known))]
+pub fn mark_of(stretch: u32, optimum: u32, s: u32, t: u32, a: u32, b: u32) -> u32
+    ensures { result ≡ mark_by stretch optimum s t a b }
+{
+    let both = s == SETTLED && t == SETTLED;
+    u32::from(optimum != UNKNOWN && both && within(stretch, optimum, a, b))
 }

@@ -64,12 +64,12 @@ impl<'a> ShapedHalf<'a> {
 
     // What the half holds of v is sound.
     #[tactic(auto, unfolding(crate::specs::Sound::sound_at))]
-    fn check_at(&self, root: u32, v: usize) -> Result<(), Refusal>
+    fn check_at(&self, root: usize, v: usize) -> Result<(), Refusal>
         requires { Between 1 self.now.roads.n v }
         ensures { fault_of result ≡ sound_at self.now.side self.now.roads.map.now self.now.roads.n self.now.roads.m root self.now.half.words.now v }
     {
         let e = self.half.entry(v);
-        if v == root as usize {
+        if v == root {
             return check_root(e);
         }
         if e.state != SETTLED {
@@ -80,7 +80,7 @@ impl<'a> ShapedHalf<'a> {
 
     // The trails of the half are sound.
     #[tactic(auto, unfolding(crate::specs::Sound::sound_fault))]
-    pub fn check_sound(&self, root: u32) -> Result<(), Refusal>
+    pub fn check_sound(&self, root: usize) -> Result<(), Refusal>
         ensures { fault_of result ≡ sound_fault self.now.side self.now.roads.map.now self.now.roads.n self.now.roads.m root self.now.half.words.now }
     {
         if limits::all_pass(self.half.n, |v| self.check_at(root, v)) {
