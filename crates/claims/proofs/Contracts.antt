@@ -31,12 +31,16 @@ use Rattle.sankayop.proofs.sankayop_area.Reads as c-masking
 use Rattle.sankayop.proofs.sankayop_route.Reads as c-filling
 use Rattle.claims.proofs.mixture.Reads as mixing
 use Rattle.limits.specs.Refusals.{fault_of}
+use Rattle.text.specs.Text.{said}
 use Rattle.map.specs.Map.{map_fault}
 use Rattle.area.specs.Finished.{route_fault}
+use Rattle.bench.specs.Calls.{said_opening, said_turn}
+use Rattle.bench.specs.Areas.{said_filling}
+use Rattle.bench.specs.Routes.{said_routing}
 use mathlib.Core.Path.{◌≡◌, refl}
 use Rattle.claims.specs.Promises.{Read, Begin, TellLine, PassLine, ReadOn, Open, TakeTurn, FillMask, FillRoute, HandRoute, Mix, ReadPacked, OpenPacked, TurnPacked, MaskPacked, RoutePacked}
 
-pub read_contract : (κs : _) (a : _) → reading.Pre κs a × ((r : _) (e : _) → reading.Post κs a r e → Read a.0.now a.1.0.now r e.1.0.now)
+pub read_contract : (κs : _) (a : _) → reading.Pre κs a × ((r : _) (e : _) → reading.Post κs a r e → Read a.0.now a.1.0.now (said r) e.1.0.now)
 read_contract κs a = (tt, λ r e p. p)
 
 pub check_contract : (κs : _) (a : _) → judging.Pre κs a × ((r : _) (e : _) → judging.Post κs a r e → fault_of r ≡ map_fault a.1.0 a.1.1.0 a.0.now)
@@ -45,31 +49,31 @@ check_contract κs a = (tt, λ r e p. p)
 pub open_contract : (κs : _) (a : _)
     → opening.Pre κs a
     × ((r : _) (e : _) → opening.Post κs a r e
-    → Open a.0.now a.1.0 a.1.1.0 a.1.1.1.0 a.1.1.1.1.0 a.1.1.1.1.1.0 a.1.1.1.1.1.1.0.now r e.1.1.1.1.1.1.0.now)
+    → Open a.0.now a.1.0 a.1.1.0 a.1.1.1.0 a.1.1.1.1.0 a.1.1.1.1.1.0 a.1.1.1.1.1.1.0.now (said_opening r) e.1.1.1.1.1.1.0.now)
 open_contract κs a = (tt, λ r e p. p)
 
 pub turn_contract : (κs : _) (a : _)
-    → taking.Pre κs a × ((r : _) (e : _) → taking.Post κs a r e → TakeTurn a.1.1.1.0 a.0.now a.1.0 a.1.1.0 a.1.1.1.1.0.now r e.1.1.1.1.0.now)
+    → taking.Pre κs a × ((r : _) (e : _) → taking.Post κs a r e → TakeTurn a.1.1.1.0 a.0.now a.1.0 a.1.1.0 a.1.1.1.1.0.now (said_turn r) e.1.1.1.1.0.now)
 turn_contract κs a = (tt, λ r e p. p)
 
 pub forward_contract : (κs : _) (a : _)
-    → going.Pre κs a × ((r : _) (e : _) → going.Post κs a r e → TakeTurn Forward a.0.now a.1.0 a.1.1.0 a.1.1.1.0.now r e.1.1.1.0.now)
+    → going.Pre κs a × ((r : _) (e : _) → going.Post κs a r e → TakeTurn Forward a.0.now a.1.0 a.1.1.0 a.1.1.1.0.now (said_turn r) e.1.1.1.0.now)
 forward_contract κs a = (tt, λ r e p. p)
 
 pub backward_contract : (κs : _) (a : _)
-    → coming.Pre κs a × ((r : _) (e : _) → coming.Post κs a r e → TakeTurn Backward a.0.now a.1.0 a.1.1.0 a.1.1.1.0.now r e.1.1.1.0.now)
+    → coming.Pre κs a × ((r : _) (e : _) → coming.Post κs a r e → TakeTurn Backward a.0.now a.1.0 a.1.1.0 a.1.1.1.0.now (said_turn r) e.1.1.1.0.now)
 backward_contract κs a = (tt, λ r e p. p)
 
 pub area_contract : (κs : _) (a : _)
     → masking.Pre κs a
     × ((r : _) (e : _) → masking.Post κs a r e
-    → FillMask a.0.now a.1.0 a.1.1.0 a.1.1.1.0.now a.1.1.1.1.0 a.1.1.1.1.1.0.now r e.1.1.1.1.1.0.now)
+    → FillMask a.0.now a.1.0 a.1.1.0 a.1.1.1.0.now a.1.1.1.1.0 a.1.1.1.1.1.0.now (said_filling r) e.1.1.1.1.1.0.now)
 area_contract κs a = (tt, λ r e p. p)
 
 pub fill_contract : (κs : _) (a : _)
     → filling.Pre κs a
     × ((r : _) (e : _) → filling.Post κs a r e
-    → FillRoute a.0.now a.1.0 a.1.1.0 a.1.1.1.0.now a.1.1.1.1.0 a.1.1.1.1.1.0.now r e.1.1.1.1.1.0.now)
+    → FillRoute a.0.now a.1.0 a.1.1.0 a.1.1.1.0.now a.1.1.1.1.0 a.1.1.1.1.1.0.now (said_routing r) e.1.1.1.1.1.0.now)
 fill_contract κs a = (tt, λ r e p. p)
 
 pub route_contract : (κs : _) (a : _)
@@ -87,7 +91,7 @@ refusal_contract κs a = (tt, λ r e p. p)
 pub mixture_contract : (κs : _) (a : _)
     → mixing.Pre κs a
     × ((r : _) (e : _) → mixing.Post κs a r e
-    → Mix a.0.now a.1.0 a.1.1.0 a.1.1.1.0 a.1.1.1.1.0 a.1.1.1.1.1.0 a.1.1.1.1.1.1.1.0.now a.1.1.1.1.1.1.0.now r
+    → Mix a.0.now a.1.0 a.1.1.0 a.1.1.1.0 a.1.1.1.1.0 a.1.1.1.1.1.0 a.1.1.1.1.1.1.1.0.now a.1.1.1.1.1.1.0.now (said_opening r)
     e.1.1.1.1.1.1.0.now)
 mixture_contract κs a = (tt, λ r e p. p)
 
@@ -108,7 +112,7 @@ module _ {M : Type 1} {𝓤 : Ura M} (𝓛 : Logic 𝓤) (mem : Memory → SProp
 
   pub read_on_contract : (κs : _) (a : _) (r : _) (e : _)
       → ((reading-on.clauses 𝓛 mem run κs a).requires tt ≡ emp 𝓤)
-      × ((reading-on.clauses 𝓛 mem run κs a).ensures tt r e ≡ fact 𝓤 (ReadOn a.0 a.1.0.now r e.1.0.now))
+      × ((reading-on.clauses 𝓛 mem run κs a).ensures tt r e ≡ fact 𝓤 (ReadOn a.0 a.1.0.now (said r) e.1.0.now))
   read_on_contract κs a r e = (refl, refl)
 
 -- ---- the C interface

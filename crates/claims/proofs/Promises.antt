@@ -31,11 +31,11 @@ use Rattle.claims.specs.Promises.{Kept, Answered, KeptPacked, Told, Promises}
 
 -- an answer that says s, and memory that is filled unless s is a refusal
 kept : {A : Type 0} (say : A → Said) → ((a b : A) → say a ≡ say b → a ≡ b) → (low high : ℕ) (s : Said) → Numbered low high s
-    → (filled lent : List ℕ) → Kept say low high lent (λ a after. (say a ≡ s) × (after ≡ unless_refused s filled lent))
+    → (filled lent : List ℕ) → Kept say low high lent (λ t after. (t ≡ s) × (after ≡ unless_refused s filled lent))
 kept say alike low high s numbers filled lent =
     record {
-      numbered = λ a after p number rest e. numbers number rest (sym p.0 ∙ e);
-      stays = λ a after p number rest e. p.1 ∙ ap (λ (t : Said). unless_refused t filled lent) (sym p.0 ∙ e);
+      numbered = λ after number rest p. numbers number rest (sym p.0);
+      stays = λ after number rest p. p.1 ∙ ap (λ (t : Said). unless_refused t filled lent) (sym p.0);
       same = λ a b x y p q. (alike a b (p.0 ∙ sym q.0), p.1 ∙ sym q.1);
     }
 
@@ -46,9 +46,9 @@ fault_same (Ok _) (Err q) e = absurd (number_not_zero q (sym e))
 fault_same (Err r) (Ok _) e = absurd (number_not_zero r e)
 fault_same (Err r) (Err q) e = opening_same (Err r) (Err q) (ap (λ (k : ℕ). refused k []) e)
 
-answered : (low high fault : ℕ) → (fault ≢ 0 → Between low high fault) → Answered low high (λ r. fault_of r ≡ fault)
+answered : (low high fault : ℕ) → (fault ≢ 0 → Between low high fault) → Answered low high (λ number. number ≡ fault)
 answered low high fault b =
-    record { numbered = λ r e ne. rw e (b (λ z. ne (e ∙ z))); same = λ r q e f. fault_same r q (e ∙ sym f) }
+    record { numbered = λ number e ne. rw e (b (λ z. ne (e ∙ z))); same = λ r q e f. fault_same r q (e ∙ sym f) }
 
 told_same : {A : Type 0} (answer : A) → Told (λ r. r ≡ answer)
 told_same answer = record { same = λ a b e f. e ∙ sym f }

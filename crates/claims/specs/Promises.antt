@@ -15,22 +15,19 @@ use Rattle.line.specs.declared.NoLine.{NoLine}
 use Rattle.text.specs.Held.{reader_at, line_at}
 use Rattle.text.specs.Text.{said, read_text, map_after}
 use Rattle.text.specs.declared.Reader.{Reader}
-use Rattle.text.specs.declared.Refused.{Refused}
-use Rattle.text.specs.declared.Size.{Size}
 use Rattle.map.specs.Map.{map_fault}
 use Rattle.map.specs.declared.Side.{Side}
 use Rattle.area.specs.Finished.{route_fault}
 use Rattle.bench.specs.Calls.{said_opening, open_said, open_words, said_turn, turn_said, turn_words}
 use Rattle.bench.specs.Areas.{said_filling, area_said, area_mask}
 use Rattle.bench.specs.Routes.{said_routing, route_said, route_part, route_buffer}
-use Rattle.bench.specs.declared.Turn.{Turn}
 use Rattle.sankayop.specs.Packed.{in_one, packed, Fits}
 use Rattle.demands.specs.Calls.{mixture_words}
 
--- ---- the promises, as the contracts state them
+-- ---- the promises, as the contracts state them of what an answer says: so any number may stand in it, as if answers were no enum
 
-abbrev pub Read : List ℕ → List ℕ → Result Size Refused → List ℕ → Type 0
-Read text map r after = (said r ≡ read_text (length map) text) × (after ≡ map_after text map)
+abbrev pub Read : List ℕ → List ℕ → Said → List ℕ → Type 0
+Read text map s after = (s ≡ read_text (length map) text) × (after ≡ map_after text map)
 
 -- a reader at the beginning of a lent text, the line at a reader's place, and the reader past that line
 abbrev pub Begin : Bor (List ℕ) → Reader → Type 0
@@ -43,29 +40,29 @@ abbrev pub PassLine : Reader → Reader → Type 0
 PassLine reader r = r ≡ reader_at reader.text (line_end reader.text.now reader.at)
 
 -- a reader reads what is left of its text
-abbrev pub ReadOn : Reader → List ℕ → Result Size Refused → List ℕ → Type 0
+abbrev pub ReadOn : Reader → List ℕ → Said → List ℕ → Type 0
 ReadOn reader = Read (drop reader.at reader.text.now)
 
-abbrev pub Open : List ℕ → ℕ → ℕ → ℕ → ℕ → ℕ → List ℕ → Result (Unit {0}) Refusal → List ℕ → Type 0
-Open map n m start target stretch x r after =
-    (said_opening r ≡ open_said map n m start target stretch x) × (after ≡ open_words map n m start target stretch x)
+abbrev pub Open : List ℕ → ℕ → ℕ → ℕ → ℕ → ℕ → List ℕ → Said → List ℕ → Type 0
+Open map n m start target stretch x s after =
+    (s ≡ open_said map n m start target stretch x) × (after ≡ open_words map n m start target stretch x)
 
-abbrev pub TakeTurn : Side → List ℕ → ℕ → ℕ → List ℕ → Result Turn Refusal → List ℕ → Type 0
-TakeTurn s map n m x r after = (said_turn r ≡ turn_said s map n m x) × (after ≡ turn_words s map n m x)
+abbrev pub TakeTurn : Side → List ℕ → ℕ → ℕ → List ℕ → Said → List ℕ → Type 0
+TakeTurn side map n m x s after = (s ≡ turn_said side map n m x) × (after ≡ turn_words side map n m x)
 
-abbrev pub FillMask : List ℕ → ℕ → ℕ → List ℕ → ℕ → List ℕ → Result (Unit {0}) Refusal → List ℕ → Type 0
-FillMask map n m x locality mask r after = (said_filling r ≡ area_said map n m x locality mask) × (after ≡ area_mask map n m x locality mask)
+abbrev pub FillMask : List ℕ → ℕ → ℕ → List ℕ → ℕ → List ℕ → Said → List ℕ → Type 0
+FillMask map n m x locality mask s after = (s ≡ area_said map n m x locality mask) × (after ≡ area_mask map n m x locality mask)
 
-abbrev pub FillRoute : List ℕ → ℕ → ℕ → List ℕ → ℕ → List ℕ → Result ℕ Refusal → List ℕ → Type 0
-FillRoute map n m x crossing buffer r after = (said_routing r ≡ route_said map n m x crossing buffer) × (after ≡ route_buffer map n m x crossing buffer)
+abbrev pub FillRoute : List ℕ → ℕ → ℕ → List ℕ → ℕ → List ℕ → Said → List ℕ → Type 0
+FillRoute map n m x crossing buffer s after = (s ≡ route_said map n m x crossing buffer) × (after ≡ route_buffer map n m x crossing buffer)
 
 -- the part handed back, and its place
 abbrev pub HandRoute : {Place : Type 0} → List ℕ → ℕ → ℕ → List ℕ → ℕ → List ℕ → Place → List ℕ → Place → Type 0
 HandRoute map n m x crossing buffer lent part place = (part ≡ route_part map n m x crossing buffer) × (place ≡ lent)
 
-abbrev pub Mix : List ℕ → ℕ → ℕ → ℕ → ℕ → ℕ → List ℕ → List ℕ → Result (Unit {0}) Refusal → List ℕ → Type 0
-Mix map n m start target stretch schedule x r after =
-    (said_opening r ≡ open_said map n m start target stretch x) × (after ≡ mixture_words map n m start target stretch schedule x)
+abbrev pub Mix : List ℕ → ℕ → ℕ → ℕ → ℕ → ℕ → List ℕ → List ℕ → Said → List ℕ → Type 0
+Mix map n m start target stretch schedule x s after =
+    (s ≡ open_said map n m start target stretch x) × (after ≡ mixture_words map n m start target stretch schedule x)
 
 -- the C interface: what the calls say, packed in one number
 abbrev pub ReadPacked : List ℕ → List ℕ → ℕ → List ℕ → Type 0
@@ -87,13 +84,13 @@ RoutePacked map n m x crossing route r after = (r ≡ packed (route_said map n m
 -- ---- what is shown of each
 
 -- of a call that is lent something to be written, and that may refuse with the numbers from low to high
-pub record Kept {A : Type 0} (say : A → Said) (low high : ℕ) (lent : List ℕ) (P : A → List ℕ → Type 0) : Type 0 where
+pub record Kept {A : Type 0} (say : A → Said) (low high : ℕ) (lent : List ℕ) (P : Said → List ℕ → Type 0) : Type 0 where
   -- "Bad input, as the table of refusals lists it, is refused by number"
-  pub numbered : (a : A) (after : List ℕ) → P a after → (number : ℕ) (rest : List ℕ) → say a ≡ refused number rest → Between low high number
+  pub numbered : (after : List ℕ) (number : ℕ) (rest : List ℕ) → P (refused number rest) after → Between low high number
   -- "A refusal writes nothing into anything we lent."
-  pub stays : (a : A) (after : List ℕ) → P a after → (number : ℕ) (rest : List ℕ) → say a ≡ refused number rest → after ≡ lent
+  pub stays : (after : List ℕ) (number : ℕ) (rest : List ℕ) → P (refused number rest) after → after ≡ lent
   -- "a second program meeting that statement is shown to give the same"
-  pub same : (a b : A) (x y : List ℕ) → P a x → P b y → (a ≡ b) × (x ≡ y)
+  pub same : (a b : A) (x y : List ℕ) → P (say a) x → P (say b) y → (a ≡ b) × (x ≡ y)
 
 -- the same of a call whose answer is packed: it can be taken apart into a number of refusal, 0 for none, and two values
 pub record KeptPacked (low high : ℕ) (lent : List ℕ) (P : ℕ → List ℕ → Type 0) : Type 0 where
@@ -101,10 +98,10 @@ pub record KeptPacked (low high : ℕ) (lent : List ℕ) (P : ℕ → List ℕ �
   pub stays : (r : ℕ) (after : List ℕ) → P r after → (number first second : ℕ) → Fits number first second → r ≡ in_one number first second → number ≢ 0 → after ≡ lent
   pub same : (r q : ℕ) (x y : List ℕ) → P r x → P q y → (r ≡ q) × (x ≡ y)
 
--- of a call that answers whether there is a refusal, and writes nothing
-pub record Answered (low high : ℕ) (P : Result (Unit {0}) Refusal → Type 0) : Type 0 where
-  pub numbered : (r : Result (Unit {0}) Refusal) → P r → fault_of r ≢ 0 → Between low high (fault_of r)
-  pub same : (r q : Result (Unit {0}) Refusal) → P r → P q → r ≡ q
+-- of a call that answers whether there is a refusal, by its number, 0 for none, and writes nothing
+pub record Answered (low high : ℕ) (P : ℕ → Type 0) : Type 0 where
+  pub numbered : (number : ℕ) → P number → number ≢ 0 → Between low high number
+  pub same : (r q : Result (Unit {0}) Refusal) → P (fault_of r) → P (fault_of q) → r ≡ q
 
 -- of a call that is not refused and writes nothing
 pub record Told {A : Type 0} (P : A → Type 0) : Type 0 where
@@ -120,7 +117,7 @@ pub record Promises (Place : Type 0) : Type 0 where
   pub past_line : (reader : Reader) → Told (PassLine reader)
   pub read_on : (reader : Reader) (map : List ℕ) → Kept said 1 5 map (ReadOn reader map)
   -- map::check
-  pub check : (map : List ℕ) (n m : ℕ) → Answered 2 5 (λ r. fault_of r ≡ map_fault n m map)
+  pub check : (map : List ℕ) (n m : ℕ) → Answered 2 5 (λ number. number ≡ map_fault n m map)
   -- bench::open_bench, lent the bench x
   pub open_bench : (map : List ℕ) (n m start target stretch : ℕ) (x : List ℕ) → Kept said_opening 2 5 x (Open map n m start target stretch x)
   -- bench::take_turn, bench::forward and bench::backward, lent the bench x
@@ -131,7 +128,7 @@ pub record Promises (Place : Type 0) : Type 0 where
   pub fill_route : (map : List ℕ) (n m : ℕ) (x : List ℕ) (crossing : ℕ) (buffer : List ℕ) → Kept said_routing 2 10 buffer (FillRoute map n m x crossing buffer)
   -- bench::route_refusal
   pub route_refusal : (map : List ℕ) (n m : ℕ) (x : List ℕ) (crossing : ℕ) (buffer : List ℕ)
-      → Answered 2 10 (λ r. fault_of r ≡ route_fault map n m x crossing (length buffer))
+      → Answered 2 10 (λ number. number ≡ route_fault map n m x crossing (length buffer))
   -- bench::route, whose part has no words exactly on a refusal; of the buffer past it docs/TIGHT.md speaks
   pub route_same : (map : List ℕ) (n m : ℕ) (x : List ℕ) (crossing : ℕ) (buffer : List ℕ) (lent : Place)
       (p q : List ℕ) (i j : Place) → HandRoute map n m x crossing buffer lent p i → HandRoute map n m x crossing buffer lent q j → (p ≡ q) × (i ≡ j)

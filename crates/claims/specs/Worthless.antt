@@ -5,6 +5,8 @@ use Rattle.map.specs.declared.Side.{Side}
 use Rattle.half.specs.Half.{settled_count}
 use Rattle.shape.specs.Bench.{half, parse}
 use Rattle.limits.specs.declared.Refusal.{Refusal}
+use Rattle.bench.specs.Calls.{said_opening, said_turn}
+use Rattle.bench.specs.Areas.{said_filling}
 use Rattle.bench.specs.declared.Turn.{Turn}
 use Rattle.bench.specs.declared.Turn.TheVariants as turns
 use Rattle.claims.specs.Five.{five, five_after}
@@ -16,12 +18,12 @@ after stretch i = five_after 7 1 5 stretch i i
 
 pub record Worthless : Type 0 where
   -- "One that refuses everything breaks the table, and with it the turns of demand 3"
-  pub opens : (r : Result (Unit {0}) Refusal) (x : List ℕ) → Open five 5 7 1 5 1200 (replicate 41 0) r x → r ≡ Ok tt
-  pub settles : (s : Side) (r : Result Turn Refusal) (x : List ℕ) → TakeTurn s five 5 7 (after 1200 0) r x → r ≡ Ok (turns.Settled (by_side s 1 5) 0)
+  pub opens : (r : Result (Unit {0}) Refusal) (x : List ℕ) → Open five 5 7 1 5 1200 (replicate 41 0) (said_opening r) x → r ≡ Ok tt
+  pub settles : (s : Side) (r : Result Turn Refusal) (x : List ℕ) → TakeTurn s five 5 7 (after 1200 0) (said_turn r) x → r ≡ Ok (turns.Settled (by_side s 1 5) 0)
   -- "one that returns the same area always breaks demand 2"
-  pub areas_differ : (r q : Result (Unit {0}) Refusal) (x y : List ℕ) → FillMask five 5 7 (after 1099 5) 0 (replicate 5 0) r x → FillMask five 5 7 (after 1200 5) 0 (replicate 5 0) q y
+  pub areas_differ : (r q : Result (Unit {0}) Refusal) (x y : List ℕ) → FillMask five 5 7 (after 1099 5) 0 (replicate 5 0) (said_filling r) x → FillMask five 5 7 (after 1200 5) 0 (replicate 5 0) (said_filling q) y
       → x ≡ y → ⊥
   -- "One whose turns change nothing breaks demand 3"
-  pub changes : (s : Side) (r : Result Turn Refusal) (x : List ℕ) → TakeTurn s five 5 7 (after 1200 0) r x → x ≡ after 1200 0 → ⊥
+  pub changes : (s : Side) (r : Result Turn Refusal) (x : List ℕ) → TakeTurn s five 5 7 (after 1200 0) (said_turn r) x → x ≡ after 1200 0 → ⊥
   -- "and so does one that settles all crossings in its first turn and afterward only names them"
-  pub settles_one : (s : Side) (r : Result Turn Refusal) (x : List ℕ) → TakeTurn s five 5 7 (after 1200 0) r x → settled_count 5 (half s (parse 5 x)) ≡ 1
+  pub settles_one : (s : Side) (r : Result Turn Refusal) (x : List ℕ) → TakeTurn s five 5 7 (after 1200 0) (said_turn r) x → settled_count 5 (half s (parse 5 x)) ≡ 1
