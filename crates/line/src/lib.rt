@@ -124,8 +124,9 @@ fn link(line: &[u8]) -> Result<Line, NoLine>
     ))
 }
 
-// What a line is, its LF included.
+// What a line is, its LF included. It is made part of its callers: an answer of this size is not to be written out for each line.
 #[tactic(auto, using(std::proofs::lemmas::Bool::Decides::nat_tests), unfolding(crate::specs::Line::line_of))]
+#[inline(always)]
 pub fn read_line(line: &[u8]) -> Result<Line, NoLine>
     ensures { result ≡ line_of line.now }
 {
