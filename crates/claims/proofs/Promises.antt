@@ -37,6 +37,7 @@ kept say alike low high s numbers filled lent =
       numbered = λ after number rest p. numbers number rest (sym p.0);
       stays = λ after number rest p. p.1 ∙ ap (λ (t : Said). unless_refused t filled lent) (sym p.0);
       same = λ a b x y p q. (alike a b (p.0 ∙ sym q.0), p.1 ∙ sym q.1);
+      one = λ s t x y p q. (p.0 ∙ sym q.0, p.1 ∙ sym q.1);
     }
 
 -- two answers with the same number, 0 for none, are the same
@@ -48,7 +49,15 @@ fault_same (Err r) (Err q) e = opening_same (Err r) (Err q) (ap (λ (k : ℕ). r
 
 answered : (low high fault : ℕ) → (fault ≢ 0 → Between low high fault) → Answered low high (λ number. number ≡ fault)
 answered low high fault b =
-    record { numbered = λ number e ne. rw e (b (λ z. ne (e ∙ z))); same = λ r q e f. fault_same r q (e ∙ sym f) }
+    record { numbered = λ number e ne. rw e (b (λ z. ne (e ∙ z))); same = λ r q e f. fault_same r q (e ∙ sym f); one = λ k l e f. e ∙ sym f }
+
+-- what they say holds of any number that is promised, also of one that no refusal has
+pub answered_between : {low high fault : ℕ} → Answered low high (λ number. number ≡ fault) → fault ≢ 0 → Between low high fault
+answered_between {fault = fault} a ne = a.numbered fault refl ne
+
+pub kept_between : {A : Type 0} {say : A → Said} {low high fault : ℕ} {rest lent : List ℕ}
+    → Kept say low high lent (λ s after. (s ≡ refused fault rest) × (after ≡ lent)) → Between low high fault
+kept_between {fault = fault} {rest = rest} {lent = lent} a = a.numbered lent fault rest (refl, refl)
 
 told_same : {A : Type 0} (answer : A) → Told (λ r. r ≡ answer)
 told_same answer = record { same = λ a b e f. e ∙ sym f }

@@ -1,7 +1,6 @@
 -- None of the four worthless programs meets the promises. Assumes nothing.
 use mathlib.Core.Path.{◌≡◌, refl, sym, ap, ◌∙◌}
-use mathlib.Core.List.{List}
-use Rattle.std.specs.Prelude.{Ok}
+use mathlib.Core.List.{List, [], ◌∷◌}
 use Prim.Native.Nat.{ℕ}
 use native.Mathlib.Omega.{arith}
 use lib.ListN.{get_or, replicate}
@@ -10,15 +9,14 @@ use Rattle.map.specs.declared.Side.{Side}
 use Rattle.map.specs.declared.Side.TheVariants.{Forward, Backward}
 use Rattle.half.specs.Half.{settled_count}
 use Rattle.shape.specs.Bench.{half, parse}
-use Rattle.bench.specs.Calls.{said_turn, turn_said, turn_words}
+use Rattle.limits.specs.Said.{told}
+use Rattle.bench.specs.Calls.{turn_said, turn_words}
 use Rattle.bench.specs.Areas.{area_mask}
-use Rattle.bench.specs.declared.Turn.TheVariants as turns
-use Rattle.bench.proofs.Answers.{opening_same, turn_same}
 use Rattle.claims.specs.Five.{five}
 use Rattle.claims.specs.Worthless.{after, Worthless}
 use Rattle.claims.proofs.Computed.{computed}
 
-first_turn : (s : Side) → turn_said s five 5 7 (after 1200 0) ≡ said_turn (Ok (turns.Settled (by_side s 1 5) 0))
+first_turn : (s : Side) → turn_said s five 5 7 (after 1200 0) ≡ told (by_side s 1 5 ∷ 0 ∷ [])
 unfolding computed
 first_turn Forward = refl
 first_turn Backward = refl
@@ -45,8 +43,8 @@ pub worthless : Worthless
 unfolding computed third
 worthless =
     record {
-      opens = λ r x p. opening_same r (Ok tt) p.0;
-      settles = λ s r x p. turn_same r (Ok (turns.Settled (by_side s 1 5) 0)) (p.0 ∙ first_turn s);
+      opens = λ s x p. p.0;
+      settles = λ side s x p. p.0 ∙ first_turn side;
       areas_differ = λ r q x y p t e. third_differs (ap (λ (l : List ℕ). get_or l 2 0) (sym p.1 ∙ e ∙ t.1));
       changes = λ s r x p e.
           let z : settled_count 5 (half s (parse 5 (turn_words s five 5 7 (after 1200 0)))) ≡ settled_count 5 (half s (parse 5 (after 1200 0))) =

@@ -91,6 +91,8 @@ pub record Kept {A : Type 0} (say : A → Said) (low high : ℕ) (lent : List �
   pub stays : (after : List ℕ) (number : ℕ) (rest : List ℕ) → P (refused number rest) after → after ≡ lent
   -- "a second program meeting that statement is shown to give the same"
   pub same : (a b : A) (x y : List ℕ) → P (say a) x → P (say b) y → (a ≡ b) × (x ≡ y)
+  -- the same of what may be said, also of what no answer says
+  pub one : (s t : Said) (x y : List ℕ) → P s x → P t y → (s ≡ t) × (x ≡ y)
 
 -- the same of a call whose answer is packed: it can be taken apart into a number of refusal, 0 for none, and two values
 pub record KeptPacked (low high : ℕ) (lent : List ℕ) (P : ℕ → List ℕ → Type 0) : Type 0 where
@@ -102,6 +104,7 @@ pub record KeptPacked (low high : ℕ) (lent : List ℕ) (P : ℕ → List ℕ �
 pub record Answered (low high : ℕ) (P : ℕ → Type 0) : Type 0 where
   pub numbered : (number : ℕ) → P number → number ≢ 0 → Between low high number
   pub same : (r q : Result (Unit {0}) Refusal) → P (fault_of r) → P (fault_of q) → r ≡ q
+  pub one : (k l : ℕ) → P k → P l → k ≡ l
 
 -- of a call that is not refused and writes nothing
 pub record Told {A : Type 0} (P : A → Type 0) : Type 0 where
