@@ -49,11 +49,11 @@ fault_same (Err r) (Err q) e = opening_same (Err r) (Err q) (ap (λ (k : ℕ). r
 
 answered : (low high fault : ℕ) → (fault ≢ 0 → Between low high fault) → Answered low high (λ number. number ≡ fault)
 answered low high fault b =
-    record { numbered = λ number e ne. rw e (b (λ z. ne (e ∙ z))); same = λ r q e f. fault_same r q (e ∙ sym f); one = λ k l e f. e ∙ sym f }
+    record { numbered = λ number e ne. rw e (b (λ z. omega (arith, ne, e, z))); same = λ r q e f. fault_same r q (e ∙ sym f); one = λ k l e f. e ∙ sym f }
 
 -- what they say holds of any number that is promised, also of one that no refusal has
 pub answered_between : {low high fault : ℕ} → Answered low high (λ number. number ≡ fault) → fault ≢ 0 → Between low high fault
-answered_between {fault = fault} a ne = a.numbered fault refl ne
+answered_between {fault = fault} a ne = a.numbered fault refl (omega (arith, ne))
 
 pub kept_between : {A : Type 0} {say : A → Said} {low high fault : ℕ} {rest lent : List ℕ}
     → Kept say low high lent (λ s after. (s ≡ refused fault rest) × (after ≡ lent)) → Between low high fault

@@ -45,10 +45,10 @@ worthless =
     record {
       opens = λ s x p. p.0;
       settles = λ side s x p. p.0 ∙ first_turn side;
-      areas_differ = λ r q x y p t e. third_differs (ap (λ (l : List ℕ). get_or l 2 0) (sym p.1 ∙ e ∙ t.1));
-      changes = λ s r x p e.
-          let z : settled_count 5 (half s (parse 5 (turn_words s five 5 7 (after 1200 0)))) ≡ settled_count 5 (half s (parse 5 (after 1200 0))) =
-          ap (λ (l : List ℕ). settled_count 5 (half s (parse 5 l))) (sym p.1 ∙ e) in
-          omega (arith, one_settled s, none_settled s);
-      settles_one = λ s r x p. rw p.1 (one_settled s);
+      areas_differ = λ s t x y p q e. third_differs (ap (λ (l : List ℕ). get_or l 2 0) (sym p.1 ∙ e ∙ q.1));
+      changes = λ side s x p e.
+          let z : settled_count 5 (half side (parse 5 (turn_words side five 5 7 (after 1200 0)))) ≡ settled_count 5 (half side (parse 5 (after 1200 0))) =
+          ap (λ (l : List ℕ). settled_count 5 (half side (parse 5 l))) (sym p.1 ∙ e) in
+          omega (arith, one_settled side, none_settled side);
+      settles_one = λ side s x p. rw p.1 (one_settled side);
     }

@@ -24,7 +24,7 @@ use Rattle.bench.specs.Routes.{said_routing, route_said, route_part, route_buffe
 use Rattle.sankayop.specs.Packed.{in_one, packed, Fits}
 use Rattle.demands.specs.Calls.{mixture_words}
 
--- ---- the promises, as the contracts state them of what an answer says: so any number may stand in it, as if answers were no enum
+-- ---- the promises, as the contracts state them, of what an answer says: any number may stand there, also one that no refusal has
 
 abbrev pub Read : List ℕ → List ℕ → Said → List ℕ → Type 0
 Read text map s after = (s ≡ read_text (length map) text) × (after ≡ map_after text map)
@@ -104,6 +104,7 @@ pub record KeptPacked (low high : ℕ) (lent : List ℕ) (P : ℕ → List ℕ �
 pub record Answered (low high : ℕ) (P : ℕ → Type 0) : Type 0 where
   pub numbered : (number : ℕ) → P number → number ≢ 0 → Between low high number
   pub same : (r q : Result (Unit {0}) Refusal) → P (fault_of r) → P (fault_of q) → r ≡ q
+  -- there is one number that may be told
   pub one : (k l : ℕ) → P k → P l → k ≡ l
 
 -- of a call that is not refused and writes nothing
